@@ -1,0 +1,4 @@
+pub mod Tests
+pub mod Decided
+pub mod Mirror
+pub mod Order

@@ -1,0 +1,96 @@
+-- 01's examples, computed from the definitions of this crate alone: one table under one claim.
+-- The letters are ASCII: "a" is 97. Assumes nothing.
+use Prim.Native.Nat.{ℕ}
+use mathlib.Core.Bool.{Bool, true, false, _&&_}
+use mathlib.Core.List.{List, [], _∷_}
+use lib.Dec.{T, eqb}
+use Rattle.words.specs.Word.{Word, front, back, suffix}
+use Rattle.words.specs.Choice.{every, firstFrom}
+use Rattle.words.specs.Occurs.{occursb, nextFrom, leftmost, rightmost}
+use Rattle.words.specs.Period.{periodb, smallestPeriod, localRepeatb, localPeriod}
+use Rattle.words.specs.Order.{lessb, maximalb, maximalSuffix}
+
+abbrev pub aab : List ℕ
+aab = 97 ∷ 97 ∷ 98 ∷ []
+
+abbrev pub gcagagag : List ℕ
+gcagagag = 103 ∷ 99 ∷ 97 ∷ 103 ∷ 97 ∷ 103 ∷ 97 ∷ 103 ∷ []
+
+abbrev pub banana : List ℕ
+banana = 98 ∷ 97 ∷ 110 ∷ 97 ∷ 110 ∷ 97 ∷ []
+
+abbrev pub nana : List ℕ
+nana = 110 ∷ 97 ∷ 110 ∷ 97 ∷ []
+
+abbrev pub acba : List ℕ
+acba = 97 ∷ 99 ∷ 98 ∷ 97 ∷ []
+
+abbrev pub xacbaacbxxcba : List ℕ
+xacbaacbxxcba = 120 ∷ 97 ∷ 99 ∷ 98 ∷ 97 ∷ 97 ∷ 99 ∷ 98 ∷ 120 ∷ 120 ∷ 99 ∷ 98 ∷ 97 ∷ []
+
+abbrev pub aa : List ℕ
+aa = 97 ∷ 97 ∷ []
+
+abbrev pub aaa : List ℕ
+aaa = 97 ∷ aa
+
+-- where the maximal suffix of a word starts, and that suffix's smallest period
+abbrev pub split : Bool → List ℕ → List ℕ
+split g w = maximalSuffix g (front w) ∷ smallestPeriod (suffix (front w) (maximalSuffix g (front w))) ∷ []
+
+-- the places of the matches that a whole walk lists, forward and backward
+abbrev pub forward : List ℕ → List ℕ → List ℕ
+forward x h = leftmost 100 (front x) (front h) (front x .size) 0
+
+abbrev pub backward : List ℕ → List ℕ → List ℕ
+backward x h = rightmost 100 (front x) (front h) (front x .size) (front h .size)
+
+-- what the definitions give, beside what 01 says
+pub record Example : Type 0 where
+  pub computed : List ℕ
+  pub stated : List ℕ
+
+abbrev pub table : List Example
+table =
+    -- P1 to P3: the maximal suffix's start and period, false and true order
+    record { computed = split false aab; stated = 2 ∷ 1 ∷ [] }
+    ∷ record { computed = split true aab; stated = 0 ∷ 3 ∷ [] }
+    ∷ record { computed = split false gcagagag; stated = 0 ∷ 7 ∷ [] }
+    ∷ record { computed = split true gcagagag; stated = 2 ∷ 2 ∷ [] }
+    ∷ record { computed = split false banana; stated = 2 ∷ 2 ∷ [] }
+    ∷ record { computed = split true banana; stated = 1 ∷ 2 ∷ [] }
+    -- P4 to P7: the smallest period of "aabaab", "ababab", "acba" and "abdc"
+    ∷ record { computed = smallestPeriod (front (97 ∷ 97 ∷ 98 ∷ 97 ∷ 97 ∷ 98 ∷ [])) ∷ []; stated = 3 ∷ [] }
+    ∷ record { computed = smallestPeriod (front (97 ∷ 98 ∷ 97 ∷ 98 ∷ 97 ∷ 98 ∷ [])) ∷ []; stated = 2 ∷ [] }
+    ∷ record { computed = smallestPeriod (front acba) ∷ []; stated = 3 ∷ [] }
+    ∷ record { computed = smallestPeriod (front (97 ∷ 98 ∷ 100 ∷ 99 ∷ [])) ∷ []; stated = 4 ∷ [] }
+    -- P6: b is m minus the greater of the two reverse starts, so that greater one is 2
+    ∷ record { computed = maximalSuffix false (back acba) ∷ maximalSuffix true (back acba) ∷ []; stated = 2 ∷ 0 ∷ [] }
+    -- P9 and P10: "nana" in "banana"
+    ∷ record { computed = forward nana banana; stated = 2 ∷ [] }
+    ∷ record { computed = backward nana banana; stated = 2 ∷ [] }
+    -- P11: "aa" in "aaa" from both ends
+    ∷ record { computed = forward aa aaa; stated = 0 ∷ [] }
+    ∷ record { computed = backward aa aaa; stated = 1 ∷ [] }
+    -- P12: "acba" in "xacbaacbxxcba", from the back
+    ∷ record { computed = backward acba xacbaacbxxcba; stated = 1 ∷ [] }
+    -- a walk lists what does not overlap: "aa" in "aaaa", and "a" in "banana"
+    ∷ record { computed = forward aa (97 ∷ aaa); stated = 0 ∷ 2 ∷ [] }
+    ∷ record { computed = backward (97 ∷ []) banana; stated = 5 ∷ 3 ∷ 1 ∷ [] }
+    -- the local period as 01's sentence has it: of "banana" at 2, and of "ab" at 1
+    ∷ record { computed = localPeriod (front banana) 2 ∷ localPeriod (front (97 ∷ 98 ∷ [])) 1 ∷ []; stated = 2 ∷ 1 ∷ [] }
+    ∷ []
+
+unfoldable pub same : List ℕ → List ℕ → Bool
+same [] [] = true
+same [] (y ∷ ys) = false
+same (x ∷ xs) [] = false
+same (x ∷ xs) (y ∷ ys) = eqb x y && same xs ys
+
+unfoldable pub all-as-stated : List Example → Bool
+all-as-stated [] = true
+all-as-stated (e ∷ es) = same (e .computed) (e .stated) && all-as-stated es
+
+pub examples : T (all-as-stated table)
+unfolding all-as-stated same maximalSuffix maximalb lessb smallestPeriod periodb localPeriod localRepeatb leftmost rightmost nextFrom occursb every firstFrom
+examples = tt

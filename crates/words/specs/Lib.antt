@@ -1,0 +1,6 @@
+pub mod Word
+pub mod Choice
+pub mod Occurs
+pub mod Period
+pub mod Order
+pub mod Examples

@@ -1,0 +1,1 @@
+// Theory only: what words, occurrences, periods and maximal suffixes are. See specs/.
