@@ -1,0 +1,12 @@
+-- The numbers of 01's table "Refusal numbers", and what they make of a row of checks.
+-- Assumes nothing.
+use Prim.Native.Nat.{ℕ}
+use Rattle.limits.specs.declared.Refusal.{Refusal}
+use Rattle.limits.specs.declared.Refusal.the-variants.{HaystackTooLong, NeedleTooLong, EmptyNeedle, StateDoesNotFit}
+
+-- 1: the haystack is over its bound. 2: the needle is over its bound. 3: preparing or walking with an empty needle. 4: a handed-in state doesn't fit.
+abbrev pub numberOf : Refusal → ℕ
+numberOf HaystackTooLong = 1
+numberOf NeedleTooLong = 2
+numberOf EmptyNeedle = 3
+numberOf StateDoesNotFit = 4

@@ -1,0 +1,93 @@
+-- What a scan shows as it goes, in either direction, and what its answer means.
+-- Assumes nothing.
+use Prim.Native.Nat.{ℕ, _+_, _-_, _<_, _≤_}
+use mathlib.Core.Path.{_≡_, refl, sym, _∙_, ap, subst}
+use mathlib.Core.Bool.{Bool, true, false, cond}
+use mathlib.Core.List.{List, [], _∷_}
+use mathlib.Core.Option.{Option, none, some}
+use native.Mathlib.Omega.{arith}
+use lib.Dec.{ltb, eqb}
+use lib.ListN.{length, getD}
+use borrow.Author.Tests.{lt-ltb, le-ltb, eq-eqb, ne-eqb, ltb-true, ltb-false, eqb-true, eqb-false}
+use Rattle.words.specs.Word.{Word, front, back}
+use Rattle.words.specs.Choice.{Least, Greatest, None, FindsLeast, FindsGreatest}
+use Rattle.words.specs.Occurs.{Occurs}
+use Rattle.words.proofs.Tests.{First, first-is, least-at, least-none}
+use Rattle.scan.specs.Scanned.{placeOf, before, scanned, fromFront, fromBack}
+use Rattle.scan.specs.declared.Found.the-variants.{At, Nothing}
+use Rattle.scan.specs.declared.Scan.{Scan}
+
+-- none of the first k letters of w is x
+abbrev pub Missed : ℕ → Word → ℕ → Type 0
+Missed x w k = (j : ℕ) → j < k → w .letter j ≡ x → ⊥
+
+module _ (x : ℕ) (w : Word) (place : ℕ → ℕ) where
+  -- a scan that passed k letters and stands at x, and one that passed them all
+  pub scanned-hit : (k : ℕ) → k < w .size → w .letter k ≡ x → Missed x w k → scanned x w place ≡ record { found = At (place k); comparisons = k + 1 }
+  unfolding scanned before
+  scanned-hit k h e m =
+      rw (least-at (λ i. eqb (w .letter i) x) (w .size) k h (eq-eqb _ _ e) (λ j hj. ne-eqb _ _ (m j hj)), lt-ltb k (w .size) h)
+
+  pub scanned-miss : Missed x w (w .size) → scanned x w place ≡ record { found = Nothing; comparisons = w .size }
+  unfolding scanned before
+  scanned-miss m =
+      rw (least-none (λ i. eqb (w .letter i) x) (w .size) (λ j hj. ne-eqb _ _ (m j hj)), le-ltb (w .size) (w .size) (omega arith))
+
+  -- what the rule's answer means, for any reading M of a place: a hit and a miss have to be shown
+  means : (M : Option ℕ → Type 0) → ((k : ℕ) → k < w .size → w .letter k ≡ x → Missed x w k → M (some (place k))) → (Missed x w (w .size) → M none)
+      → M (placeOf (scanned x w place .found))
+  unfolding scanned before
+  means M hit miss = go (ltb (before x w) (w .size)) refl
+    where
+      passed : First (λ i. eqb (w .letter i) x) (w .size) 0 (before x w)
+      passed = first-is (λ i. eqb (w .letter i) x) (w .size) 0
+
+      go : (b : Bool) → ltb (before x w) (w .size) ≡ b
+          → M (placeOf (cond {A = Scan} b (record { found = At (place (before x w)); comparisons = before x w + 1 }) (record { found = Nothing; comparisons = w .size }) .found))
+      go true e =
+          let h = ltb-true (before x w) (w .size) e in
+          hit (before x w) h (eqb-true _ _ (passed .found (omega arith))) (λ j hj. eqb-false _ _ (passed .missed j (omega arith) hj))
+      go false e =
+          let h = ltb-false (before x w) (w .size) e in
+          miss (λ j hj. eqb-false _ _ (passed .missed j (omega arith) (omega arith)))
+
+module _ (x : ℕ) (text : List ℕ) where
+  abbrev Stands : ℕ → Type 0
+  Stands k = Occurs (front (x ∷ [])) (front text) k
+
+  stands : (k : ℕ) → k < length text → getD text k 0 ≡ x → Stands k
+  stands k h e =
+      record {
+        fits = omega arith;
+        same = λ i j hi q.
+            let first : i ≡ 0 = omega arith in
+            let there : k ≡ j = omega arith in
+            rw (first, ← there) (sym e);
+      }
+
+  is-letter : (k : ℕ) → Stands k → getD text k 0 ≡ x
+  is-letter k o = sym (o .same 0 k (omega arith) (omega arith))
+
+  -- "find gives the least position .. nothing exactly if there is none", of one byte
+  pub front-means : FindsLeast Stands (placeOf (fromFront x text .found))
+  front-means =
+      means x (front text) (λ k. k) (FindsLeast Stands)
+      (λ k h e m. record { holds = stands k h e; none-before = λ j hj o. m j hj (is-letter j o) })
+      (λ m j o. let f = o .fits in m j (omega arith) (is-letter j o))
+
+  -- "rfind the greatest"
+  pub back-means : FindsGreatest Stands (placeOf (fromBack x text .found))
+  back-means =
+      means x (back text) (λ k. length text - (1 + k)) (FindsGreatest Stands)
+      (λ k h e m. record {
+        holds = stands (length text - (1 + k)) (omega arith) e;
+        none-after = λ j hj o. let f = o .fits in m (length text - (1 + j)) (omega arith) (ap (λ (y : ℕ). getD text y 0) (omega arith) ∙ is-letter j o);
+      })
+      (λ m j o. let f = o .fits in m (length text - (1 + j)) (omega arith) (ap (λ (y : ℕ). getD text y 0) (omega arith) ∙ is-letter j o))
+
+  -- what each return of a scan has to show, from the rule's answer alone
+  pub front-settled : (r : Scan) → fromFront x text ≡ r → (r ≡ fromFront x text) × FindsLeast Stands (placeOf (r .found))
+  front-settled r e = (sym e, subst (λ (y : Scan). FindsLeast Stands (placeOf (y .found))) e front-means)
+
+  pub back-settled : (r : Scan) → fromBack x text ≡ r → (r ≡ fromBack x text) × FindsGreatest Stands (placeOf (r .found))
+  back-settled r e = (sym e, subst (λ (y : Scan). FindsGreatest Stands (placeOf (y .found))) e back-means)
