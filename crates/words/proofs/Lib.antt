@@ -2,3 +2,4 @@ pub mod Tests
 pub mod Decided
 pub mod Mirror
 pub mod Order
+pub mod Critical

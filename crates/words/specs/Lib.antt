@@ -3,4 +3,5 @@ pub mod Choice
 pub mod Occurs
 pub mod Period
 pub mod Order
+pub mod Critical
 pub mod Examples
