@@ -1,2 +1,6 @@
 pub mod Shape
 pub mod Ways
+pub mod Windows
+pub mod Meaning
+pub mod Counts
+pub mod Mirror

@@ -1,2 +1,4 @@
 pub mod Window
 pub mod Search
+pub mod Mirror
+pub mod Meaning
