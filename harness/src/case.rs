@@ -1,0 +1,103 @@
+//! What is asked and what is answered, in the words of document 01.
+
+pub type Word = Vec<u8>;
+
+#[derive(Clone, Copy, Debug, PartialEq, Eq)]
+pub enum Memory {
+    Long,
+    Short { forward: usize, backward: usize },
+}
+
+/// The record of a walk.
+#[derive(Clone, Copy, Debug, PartialEq, Eq)]
+pub struct State {
+    pub m: usize,
+    pub n: usize,
+    pub position: usize,
+    pub end: usize,
+    pub c: usize,
+    pub b: usize,
+    pub p: usize,
+    pub set: u64,
+    pub memory: Memory,
+}
+
+#[derive(Clone, Copy, Debug, PartialEq, Eq)]
+pub enum Answer {
+    Match(usize, usize),
+    Reject(usize, usize),
+    Done,
+    None,
+    Refused(u8),
+}
+
+#[derive(Clone, Copy, Debug, Default, PartialEq, Eq)]
+pub struct Counts {
+    pub preparing: u64,
+    pub comparisons: u64,
+    pub tests: u64,
+}
+
+/// The four calls that take a state.
+#[derive(Clone, Copy, Debug, PartialEq, Eq)]
+pub enum Call {
+    Step,
+    StepBack,
+    Next,
+    NextBack,
+}
+
+impl Call {
+    pub const ALL: [Call; 4] = [Call::Step, Call::StepBack, Call::Next, Call::NextBack];
+
+    pub fn is_backward(self) -> bool {
+        matches!(self, Call::StepBack | Call::NextBack)
+    }
+}
+
+/// What one such call gives back.
+#[derive(Clone, Copy, Debug, PartialEq, Eq)]
+pub struct Turn {
+    pub answer: Answer,
+    pub state: State,
+    pub counts: Counts,
+}
+
+#[derive(Clone, Debug)]
+pub enum Case {
+    Suffix { word: Word, greater: bool },
+    ReverseSuffix { word: Word, known: usize, greater: bool },
+    Prepare { needle: Word, n: usize },
+    Search { needle: Word, haystack: Word, backward: bool },
+    Call { call: Call, needle: Word, haystack: Word, state: State },
+    Walk { needle: Word, haystack: Word, script: Vec<Call> },
+}
+
+#[derive(Clone, Debug, PartialEq, Eq)]
+pub enum Reply {
+    Suffix { start: usize, period: usize, rounds: u64 },
+    ReverseSuffix { start: usize, rounds: u64 },
+    Prepared { state: State, preparing: u64 },
+    Found { position: Option<usize>, counts: Counts },
+    Called(Turn),
+    Walked { preparing: u64, turns: Vec<(Answer, Counts)>, state: State },
+    Refused(u8),
+}
+
+impl Reply {
+    /// The same with every count 0: all that the unchanged Rust can tell.
+    pub fn without_counts(mut self) -> Reply {
+        match &mut self {
+            Reply::Suffix { rounds, .. } | Reply::ReverseSuffix { rounds, .. } => *rounds = 0,
+            Reply::Prepared { preparing, .. } => *preparing = 0,
+            Reply::Found { counts, .. } => *counts = Counts::default(),
+            Reply::Called(turn) => turn.counts = Counts::default(),
+            Reply::Walked { preparing, turns, .. } => {
+                *preparing = 0;
+                turns.iter_mut().for_each(|turn| turn.1 = Counts::default());
+            }
+            Reply::Refused(_) => {}
+        }
+        self
+    }
+}

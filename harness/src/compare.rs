@@ -1,0 +1,339 @@
+//! Model, Rust and meaning against each other, on all small inputs and on seeded larger ones.
+
+use crate::case::*;
+use crate::examples;
+use crate::judge::judge;
+use crate::line;
+use crate::meaning;
+use crate::model::{Model, NEEDLE_BOUND, RULES};
+use crate::naive;
+use crate::scripts;
+use crate::states;
+use crate::words::{self, Dice};
+
+/// A case that does not agree, and how.
+pub struct Failure {
+    case: Box<Case>,
+    why: String,
+}
+
+impl Failure {
+    fn new(case: Case, why: String) -> Failure {
+        Failure { case: Box::new(case), why }
+    }
+
+    /// Cut off where a reader has seen enough: the haystack may have 64 MiB.
+    pub fn shown(&self) -> String {
+        let brief = |text: &str| match text.get(..3000) {
+            Some(start) => format!("{start}.. ({} characters)", text.len()),
+            None => text.to_string(),
+        };
+        format!("{} | {}", brief(&line::show_case(&self.case)), brief(&self.why))
+    }
+}
+
+pub type Outcome = Result<(), Failure>;
+
+/// Counts the cases tried on one model.
+pub struct Run<'a> {
+    pub model: &'a Model,
+    pub cases: u64,
+}
+
+/// How far the exhaustive parts go and how many seeded inputs are tried.
+struct Size {
+    two_letters: usize,
+    three_letters: usize,
+    needle: usize,
+    haystack: usize,
+    state_needle: usize,
+    seeded: usize,
+    large: usize,
+}
+
+const SHORT_RUN: Size = Size {
+    two_letters: 12,
+    three_letters: 8,
+    needle: 6,
+    haystack: 10,
+    state_needle: 3,
+    seeded: 40_000,
+    large: 60,
+};
+
+const LONG_RUN: Size = Size {
+    two_letters: 15,
+    three_letters: 10,
+    needle: 8,
+    haystack: 12,
+    state_needle: 4,
+    seeded: 2_000_000,
+    large: 2_000,
+};
+
+/// The whole comparison. Gives the number of cases.
+pub fn compare(seed: u64, long: bool) -> Result<u64, Failure> {
+    let size = if long { LONG_RUN } else { SHORT_RUN };
+    let mut run = Run { model: &RULES, cases: 0 };
+    // These are small already, or too large to be made smaller step by step.
+    run.examples()?;
+    run.bounds()?;
+    run.longest_needles()?;
+    let outcome = run.all(&size, &mut Dice::new(seed));
+    outcome.map_err(|failure| smallest(run.model, failure))?;
+    Ok(run.cases)
+}
+
+fn verdict(model: &Model, case: &Case) -> Result<(), String> {
+    let reply = judge(model, case)?;
+    meaning::check(case, &reply)
+}
+
+impl Run<'_> {
+    fn all(&mut self, size: &Size, dice: &mut Dice) -> Outcome {
+        self.suffixes(b"ab", size.two_letters)?;
+        self.suffixes(b"abc", size.three_letters)?;
+        self.pairs((b"ab", size.needle), (b"ab", size.haystack))?;
+        // A third letter lets the fingerprint say no; the others let it say yes falsely.
+        self.pairs((b"ab", 4), (b"abc", 7))?;
+        self.pairs((&[0x01, 0x02], 4), (&[0x01, 0x02, 0x41], 7))?;
+        self.handed_in(size.state_needle)?;
+        for _ in 0..size.seeded {
+            self.seeded(dice, 40, 150)?;
+        }
+        for _ in 0..size.large {
+            self.seeded(dice, 3000, 20_000)?;
+        }
+        Ok(())
+    }
+
+    /// The part that `oracle break` runs on wrong models.
+    pub fn small(&mut self) -> Outcome {
+        self.suffixes(b"ab", 6)?;
+        self.pairs((b"ab", 3), (b"abc", 5))?;
+        self.pairs((b"ab", 5), (b"ab", 7))?;
+        self.examples()?;
+        self.bounds()
+    }
+
+    fn check(&mut self, case: Case) -> Outcome {
+        self.cases += 1;
+        verdict(self.model, &case).map_err(|why| Failure::new(case, why))
+    }
+
+    fn example(&mut self, case: Case, wanted: &str) -> Outcome {
+        self.cases += 1;
+        examples::check(self.model, &case, wanted).map_err(|why| Failure::new(case, why))
+    }
+
+    fn examples(&mut self) -> Outcome {
+        for (text, wanted) in examples::TABLE {
+            let case = line::parse(text.as_bytes()).expect("the table's lines are well formed");
+            self.example(case, wanted)?;
+        }
+        Ok(())
+    }
+
+    fn bounds(&mut self) -> Outcome {
+        for (case, wanted) in examples::BOUNDS {
+            self.example(case(), wanted)?;
+        }
+        Ok(())
+    }
+
+    fn suffixes(&mut self, letters: &[u8], longest: usize) -> Outcome {
+        for word in words::up_to(letters, longest) {
+            for greater in [false, true] {
+                self.check(Case::Suffix { word: word.clone(), greater })?;
+                for known in 0..=word.len() + 1 {
+                    self.check(Case::ReverseSuffix { word: word.clone(), known, greater })?;
+                }
+            }
+            self.check(Case::Prepare { needle: word, n: 7 })?;
+        }
+        Ok(())
+    }
+
+    /// All needles over some letters in all haystacks over some, the shortest pairs first, so
+    /// that the first difference is a smallest one.
+    fn pairs(&mut self, needles: (&[u8], usize), haystacks: (&[u8], usize)) -> Outcome {
+        for total in 0..=needles.1 + haystacks.1 {
+            for m in total.saturating_sub(haystacks.1)..=total.min(needles.1) {
+                for needle in words::all(needles.0, m) {
+                    for haystack in words::all(haystacks.0, total - m) {
+                        self.pair(&needle, &haystack)?;
+                    }
+                }
+            }
+        }
+        Ok(())
+    }
+
+    /// Both searches, the walk of each call, and walks that change direction.
+    fn pair(&mut self, needle: &[u8], haystack: &[u8]) -> Outcome {
+        use Call::*;
+        self.searches(needle, haystack)?;
+        let rounds: [&[Call]; 7] = [
+            &[Step],
+            &[StepBack],
+            &[Next],
+            &[NextBack],
+            &[Step, StepBack],
+            &[Next, StepBack],
+            &[Step, NextBack],
+        ];
+        for round in rounds {
+            let script = scripts::whole(needle, haystack, round);
+            let (needle, haystack) = (needle.to_vec(), haystack.to_vec());
+            self.check(Case::Walk { needle, haystack, script })?;
+        }
+        Ok(())
+    }
+
+    /// Needles at their bound, in haystacks that nearly hold them twice.
+    fn longest_needles(&mut self) -> Outcome {
+        let mut odd_end = words::power(b"a", NEEDLE_BOUND);
+        odd_end[NEEDLE_BOUND - 1] = b'b';
+        let fibonacci = words::fibonacci(*b"ab", NEEDLE_BOUND);
+        let thue_morse = words::thue_morse(*b"ab", NEEDLE_BOUND);
+        let nearly_periodic = words::power(&odd_end[NEEDLE_BOUND / 2 - 100..], NEEDLE_BOUND);
+        for needle in [odd_end, fibonacci, thue_morse, nearly_periodic] {
+            let haystack = [&needle[1..], &needle[..]].concat();
+            self.splits(&needle, naive::smallest_period(&needle), haystack.len())?;
+            self.searches(&needle, &haystack)?;
+        }
+        Ok(())
+    }
+
+    /// Both passes in both orders, and preparing.
+    fn splits(&mut self, word: &[u8], known: usize, n: usize) -> Outcome {
+        for greater in [false, true] {
+            self.check(Case::Suffix { word: word.to_vec(), greater })?;
+            self.check(Case::ReverseSuffix { word: word.to_vec(), known, greater })?;
+        }
+        self.check(Case::Prepare { needle: word.to_vec(), n })
+    }
+
+    fn searches(&mut self, needle: &[u8], haystack: &[u8]) -> Outcome {
+        for backward in [false, true] {
+            let (needle, haystack) = (needle.to_vec(), haystack.to_vec());
+            self.check(Case::Search { needle, haystack, backward })?;
+        }
+        Ok(())
+    }
+
+    /// Every fitting state of small lengths, whatever bytes it may have been prepared for.
+    fn handed_in(&mut self, longest: usize) -> Outcome {
+        for needle in words::up_to(b"ab", longest).filter(|needle| !needle.is_empty()) {
+            for haystack in words::up_to(b"ab", 5) {
+                for set in [0, 1 << 33, u64::MAX] {
+                    for state in states::all_fitting(needle.len(), haystack.len(), set) {
+                        self.calls(&needle, &haystack, state)?;
+                    }
+                }
+            }
+        }
+        Ok(())
+    }
+
+    fn calls(&mut self, needle: &[u8], haystack: &[u8], state: State) -> Outcome {
+        for call in Call::ALL {
+            let (needle, haystack) = (needle.to_vec(), haystack.to_vec());
+            self.check(Case::Call { call, needle, haystack, state })?;
+        }
+        self.walk_bounds(Call::Step, needle, haystack, state)?;
+        self.walk_bounds(Call::StepBack, needle, haystack, state)
+    }
+
+    /// Demand 3 for the whole walk that starts in a handed-in state: its bounds need no
+    /// premise on the bytes.
+    fn walk_bounds(&self, call: Call, needle: &[u8], haystack: &[u8], first: State) -> Outcome {
+        let mut total = Counts::default();
+        let mut state = first;
+        // A step that is not Done moves by a byte at least.
+        for _ in 0..haystack.len() {
+            let turn = self.model.call(call, needle, haystack, state);
+            total.comparisons += turn.counts.comparisons;
+            total.tests += turn.counts.tests;
+            state = turn.state;
+        }
+        if meaning::within(&total, needle.len(), meaning::left(call, &first)) {
+            return Ok(());
+        }
+        let (needle, haystack) = (needle.to_vec(), haystack.to_vec());
+        let case = Case::Call { call, needle, haystack, state: first };
+        Err(Failure::new(case, format!("the walk from here makes {total:?}")))
+    }
+
+    /// One seeded needle and haystack, with all that can be asked of them.
+    fn seeded(&mut self, dice: &mut Dice, needle_max: usize, haystack_max: usize) -> Outcome {
+        let (needle, haystack) = words::pair(dice, needle_max, haystack_max);
+        let (m, n) = (needle.len(), haystack.len());
+        let any = dice.between(0, m + 1);
+        let known = dice.pick(&[naive::smallest_period(&needle), any]);
+        self.splits(&needle, known, n)?;
+        self.pair(&needle, &haystack)?;
+        let script = (0..dice.between(1, 40)).map(|_| dice.pick(&Call::ALL)).collect();
+        self.check(Case::Walk { needle: needle.clone(), haystack: haystack.clone(), script })?;
+        let any = dice.roll();
+        let set = dice.pick(&[RULES.prepare(&needle, n).0.set, u64::MAX, any]);
+        let state = states::any_fitting(dice, m, n, set);
+        self.calls(&needle, &haystack, state)
+    }
+}
+
+/// Leaves out bytes and calls as long as the rest still does not agree.
+fn smallest(model: &Model, mut failure: Failure) -> Failure {
+    loop {
+        let still = |case| verdict(model, &case).err().map(|why| Failure::new(case, why));
+        let found = smaller(&failure.case).find_map(still);
+        match found {
+            Some(found) => failure = found,
+            None => return failure,
+        }
+    }
+}
+
+/// The case with a part left out. A handed-in state holds the lengths, so it stays as it is.
+fn smaller<'a>(case: &'a Case) -> Box<dyn Iterator<Item = Case> + 'a> {
+    match case {
+        Case::Suffix { word, greater } => {
+            Box::new(cuts(word).map(|word| Case::Suffix { word, greater: *greater }))
+        }
+        Case::ReverseSuffix { word, known, greater } => {
+            let (known, greater) = (*known, *greater);
+            Box::new(cuts(word).map(move |word| Case::ReverseSuffix { word, known, greater }))
+        }
+        Case::Prepare { needle, n } => {
+            Box::new(cuts(needle).map(|needle| Case::Prepare { needle, n: *n }))
+        }
+        Case::Search { needle, haystack, backward } => {
+            let built = |needle, haystack| Case::Search { needle, haystack, backward: *backward };
+            let needles = cuts(needle).map(move |needle| built(needle, haystack.clone()));
+            let haystacks = cuts(haystack).map(move |haystack| built(needle.clone(), haystack));
+            Box::new(needles.chain(haystacks))
+        }
+        Case::Walk { needle, haystack, script } => {
+            let built = |needle: &[u8], haystack: &[u8], script: &[Call]| Case::Walk {
+                needle: needle.to_vec(),
+                haystack: haystack.to_vec(),
+                script: script.to_vec(),
+            };
+            let scripts = cuts(script).map(move |script| built(needle, haystack, &script));
+            let needles = cuts(needle).map(move |needle| built(&needle, haystack, script));
+            let haystacks = cuts(haystack).map(move |haystack| built(needle, &haystack, script));
+            Box::new(scripts.chain(needles).chain(haystacks))
+        }
+        Case::Call { .. } => Box::new(std::iter::empty()),
+    }
+}
+
+/// The list without one part of it, large parts first.
+fn cuts<T: Clone>(list: &[T]) -> impl Iterator<Item = Vec<T>> + '_ {
+    let halved = |part: &usize| Some(part / 2).filter(|&part| part > 0);
+    let parts = std::iter::successors(Some(list.len()).filter(|&part| part > 0), halved);
+    parts.flat_map(move |part| {
+        let starts = (0..=list.len() - part).step_by(part);
+        starts.map(move |start| [&list[..start], &list[start + part..]].concat())
+    })
+}

@@ -1,0 +1,131 @@
+//! Answers that stand in the documents themselves, so that model and Rust can't be wrong
+//! together about them.
+
+use crate::case::*;
+use crate::judge::judge;
+use crate::line;
+use crate::model::{Model, HAYSTACK_BOUND, NEEDLE_BOUND};
+use crate::states;
+
+/// A way to build a case, and its answer in the form of `TABLE`.
+type Built = (fn() -> Case, &'static str);
+
+/// The case's line, and its answer as far as the documents give it: a field that ends in `*`
+/// may go on in any way.
+pub const TABLE: &[(&str, &str)] = &[
+    // P1 to P3: "aab", "gcagagag", "banana"
+    ("msuf 616162 0", "ok 2 1 *"),
+    ("msuf 616162 1", "ok 0 3 *"),
+    ("msuf 6763616761676167 0", "ok 0 7 *"),
+    ("msuf 6763616761676167 1", "ok 2 2 *"),
+    ("msuf 62616e616e61 0", "ok 2 2 *"),
+    ("msuf 62616e616e61 1", "ok 1 2 *"),
+    ("msuf - 0", "ok 0 1 *"),
+    ("msuf - 1", "ok 0 1 *"),
+    // P4 to P8: "aabaab", "ababab", "acba", "abdc", "baabb"
+    ("prep 616162616162 9", "ok S:6:9:0:9:2:5:3:0000000600000000:0:6 *"),
+    ("prep 616261626162 9", "ok S:6:9:0:9:1:5:2:0000000600000000:0:6 *"),
+    ("prep 61636261 9", "ok S:4:9:0:9:1:2:3:0000000e00000000:0:4 *"),
+    ("prep 61626463 9", "ok L:4:9:0:9:2:2:3:0000001e00000000 *"),
+    ("prep 6261616262 9", "ok L:5:9:0:9:3:3:4:0000000600000000 *"),
+    // P9, P10: "nana" in "banana" from both ends
+    ("walk 6e616e61 62616e616e61 fff", "ok 10 reject:0:2/4/1 match:2:6/2/1 done/0/0 *"),
+    ("walk 6e616e61 62616e616e61 bbb", "ok 10 match:2:6/4/1 reject:0:2/0/0 done/0/0 *"),
+    // P11: "aa" in "aaa" from both ends
+    ("walk 6161 616161 fff", "ok * match:0:2/* reject:2:3/* done/0/0 *"),
+    ("walk 6161 616161 bbb", "ok * match:1:3/* reject:0:1/* done/0/0 *"),
+    // P12: rfind "acba" in "xacbaacbxxcba"
+    ("rfind 61636261 78616362616163627878636261", "at:1 * * *"),
+    // Run: "a" in "banana" and in the empty word
+    ("find 61 62616e616e61", "at:1 0 2 0"),
+    ("rfind 61 62616e616e61", "at:5 0 1 0"),
+    ("find 61 -", "none 0 0 0"),
+    ("rfind 61 -", "none 0 0 0"),
+    // an empty needle, and one longer than the haystack
+    ("find - 6162", "at:0 0 0 0"),
+    ("rfind - 6162", "at:2 0 0 0"),
+    ("find 616263 6162", "none * 0 0"),
+    ("rfind 616263 6162", "none * 0 0"),
+    // counts that the readings settle: "ab" in "ab", "aba" in "ababb", and three where the
+    // bound 2n-m is reached
+    ("find 6162 6162", "at:0 3 2 1"),
+    ("rfind 616261 6162616262", "at:0 * 5 *"),
+    ("find 61 61", "at:0 0 1 0"),
+    ("rfind 6162 6161", "none * 2 1"),
+    // 01 and 41 hex share bit 1, so the test says yes and the comparison says no
+    ("find 0101 4141", "none * 1 1"),
+    // refusals and their order
+    ("prep - 5", "ref:3"),
+    ("walk - 6162 f", "ref:3"),
+    ("prep 61 67108864", "ok S:1:67108864:0:67108864:0:1:1:0000000200000000:0:1 0"),
+    ("prep 61 67108865", "ref:1"),
+    ("prep - 67108865", "ref:1"),
+    ("step - 6162 S:0:2:0:2:0:0:1:0000000000000000:0:0", "ref:3 S:0:2:0:2:0:0:1:* 0 0"),
+    ("step 61 6162 S:1:2:3:2:0:1:1:0000000000000000:0:1", "ref:4 S:1:2:3:2:0:1:1:* 0 0"),
+];
+
+/// The bounds themselves. Built one by one, since a haystack at its bound takes 64 MiB.
+pub const BOUNDS: &[Built] = &[
+    (|| search(NEEDLE_BOUND, NEEDLE_BOUND + 5, false), "at:5 * * *"),
+    (|| search(NEEDLE_BOUND, NEEDLE_BOUND + 5, true), "at:0 * * *"),
+    (|| search(NEEDLE_BOUND + 1, NEEDLE_BOUND + 5, false), "ref:2"),
+    (|| search(NEEDLE_BOUND + 1, NEEDLE_BOUND + 5, true), "ref:2"),
+    (|| search(NEEDLE_BOUND, HAYSTACK_BOUND, false), "at:67043328 * * *"),
+    (|| search(NEEDLE_BOUND, HAYSTACK_BOUND, true), "at:0 * * *"),
+    (|| search(1, HAYSTACK_BOUND, false), "at:67108863 0 67108864 0"),
+    (|| search(1, HAYSTACK_BOUND, true), "at:0 0 67108864 0"),
+    (|| search(0, HAYSTACK_BOUND, true), "at:67108864 0 0 0"),
+    (|| search(0, HAYSTACK_BOUND + 1, true), "ref:1"),
+    (|| search(1, HAYSTACK_BOUND + 1, false), "ref:1"),
+    (|| search(NEEDLE_BOUND + 1, HAYSTACK_BOUND + 1, false), "ref:1"),
+    (|| Case::Prepare { needle: ones(NEEDLE_BOUND + 1), n: 0 }, "ref:2"),
+    (|| Case::Prepare { needle: ones(NEEDLE_BOUND + 1), n: HAYSTACK_BOUND + 1 }, "ref:1"),
+    (|| Case::Suffix { word: ones(NEEDLE_BOUND), greater: false }, "ok 0 1 65535"),
+    (|| Case::Suffix { word: ones(NEEDLE_BOUND + 1), greater: true }, "ref:2"),
+    (|| reverse(NEEDLE_BOUND), "ok 0 65535"),
+    (|| reverse(NEEDLE_BOUND + 1), "ref:2"),
+    (|| step(NEEDLE_BOUND, 3, 3), "done S:65536:3:3:3:* 0 0"),
+    (|| step(NEEDLE_BOUND, 3, 4), "ref:4 S:65536:3:4:3:* 0 0"),
+    (|| step(NEEDLE_BOUND + 1, 3, 4), "ref:2 S:65537:3:4:3:* 0 0"),
+];
+
+fn ones(len: usize) -> Word {
+    vec![1; len]
+}
+
+/// Ones at the far end of zeros.
+fn search(m: usize, n: usize, backward: bool) -> Case {
+    let mut haystack = vec![0; n];
+    let far = if backward { 0..m } else { n - m..n };
+    haystack[far].fill(1);
+    Case::Search { needle: ones(m), haystack, backward }
+}
+
+fn reverse(len: usize) -> Case {
+    Case::ReverseSuffix { word: ones(len), known: 0, greater: false }
+}
+
+/// A step at that position; the rest of the state fits.
+fn step(m: usize, n: usize, position: usize) -> Case {
+    let state = State { position, ..states::at_start(m, n) };
+    Case::Call { call: Call::Step, needle: ones(m), haystack: vec![0; n], state }
+}
+
+/// Err says what the documents ask for.
+pub fn check(model: &Model, case: &Case, wanted: &str) -> Result<(), String> {
+    let given = line::show_reply(&judge(model, case)?);
+    if fits_pattern(wanted, &given) {
+        return Ok(());
+    }
+    Err(format!("model: {given} | documents: {wanted}"))
+}
+
+fn fits_pattern(pattern: &str, text: &str) -> bool {
+    let (wanted, given): (Vec<&str>, Vec<&str>) =
+        (pattern.split(' ').collect(), text.split(' ').collect());
+    let fits = |(wanted, given): (&&str, &&str)| match wanted.strip_suffix('*') {
+        Some(start) => given.starts_with(start),
+        None => wanted == given,
+    };
+    wanted.len() == given.len() && wanted.iter().zip(&given).all(fits)
+}

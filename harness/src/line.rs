@@ -1,0 +1,202 @@
+//! Cases and replies as lines of text. The form is written down at the top of oracle.rs.
+
+use crate::case::*;
+use std::fmt::Write;
+
+/// None for a malformed line.
+pub fn parse(line: &[u8]) -> Option<Case> {
+    let fields: Vec<&[u8]> = line.split(|&byte| byte == b' ').collect();
+    Some(match fields[..] {
+        [b"msuf", text, order] => {
+            Case::Suffix { word: parse_word(text)?, greater: parse_order(order)? }
+        }
+        [b"rmsuf", text, known, order] => Case::ReverseSuffix {
+            word: parse_word(text)?,
+            known: parse_number(known)?,
+            greater: parse_order(order)?,
+        },
+        [b"prep", needle, n] => Case::Prepare { needle: parse_word(needle)?, n: parse_number(n)? },
+        [name @ (b"find" | b"rfind"), needle, haystack] => Case::Search {
+            needle: parse_word(needle)?,
+            haystack: parse_word(haystack)?,
+            backward: name == b"rfind",
+        },
+        [b"walk", needle, haystack, script] => Case::Walk {
+            needle: parse_word(needle)?,
+            haystack: parse_word(haystack)?,
+            script: parse_script(script)?,
+        },
+        [name, needle, haystack, state] => Case::Call {
+            call: Call::ALL.into_iter().find(|&call| call_name(call).as_bytes() == name)?,
+            needle: parse_word(needle)?,
+            haystack: parse_word(haystack)?,
+            state: parse_state(state)?,
+        },
+        _ => return None,
+    })
+}
+
+fn call_name(call: Call) -> &'static str {
+    match call {
+        Call::Step => "step",
+        Call::StepBack => "stepb",
+        Call::Next => "next",
+        Call::NextBack => "nextb",
+    }
+}
+
+fn call_letter(call: Call) -> u8 {
+    match call {
+        Call::Step => b'f',
+        Call::StepBack => b'b',
+        Call::Next => b'F',
+        Call::NextBack => b'B',
+    }
+}
+
+fn parse_script(text: &[u8]) -> Option<Vec<Call>> {
+    let call = |&letter| Call::ALL.into_iter().find(|&call| call_letter(call) == letter);
+    text.iter().map(call).collect::<Option<Vec<Call>>>().filter(|script| !script.is_empty())
+}
+
+fn parse_order(text: &[u8]) -> Option<bool> {
+    match text {
+        b"0" => Some(false),
+        b"1" => Some(true),
+        _ => None,
+    }
+}
+
+fn hex_digit(digit: u8) -> Option<u8> {
+    match digit {
+        b'0'..=b'9' => Some(digit - b'0'),
+        b'a'..=b'f' => Some(digit - b'a' + 10),
+        _ => None,
+    }
+}
+
+fn parse_word(text: &[u8]) -> Option<Word> {
+    if text == b"-" {
+        return Some(Word::new());
+    }
+    if text.is_empty() || text.len() % 2 == 1 {
+        return None;
+    }
+    text.chunks(2).map(|pair| Some(hex_digit(pair[0])? * 16 + hex_digit(pair[1])?)).collect()
+}
+
+fn parse_number(text: &[u8]) -> Option<usize> {
+    if !(1..=20).contains(&text.len()) || !text.iter().all(u8::is_ascii_digit) {
+        return None;
+    }
+    std::str::from_utf8(text).ok()?.parse().ok()
+}
+
+fn parse_set(text: &[u8]) -> Option<u64> {
+    if text.len() != 16 {
+        return None;
+    }
+    text.iter().try_fold(0, |set, &digit| Some(set << 4 | u64::from(hex_digit(digit)?)))
+}
+
+fn parse_state(text: &[u8]) -> Option<State> {
+    let fields: Vec<&[u8]> = text.split(|&byte| byte == b':').collect();
+    let (kind, fields) = fields.split_first()?;
+    let memory = match (*kind, fields.len()) {
+        (b"L", 8) => Memory::Long,
+        (b"S", 10) => {
+            let (forward, backward) = (parse_number(fields[8])?, parse_number(fields[9])?);
+            Memory::Short { forward, backward }
+        }
+        _ => return None,
+    };
+    let number = |place: usize| parse_number(fields[place]);
+    Some(State {
+        m: number(0)?,
+        n: number(1)?,
+        position: number(2)?,
+        end: number(3)?,
+        c: number(4)?,
+        b: number(5)?,
+        p: number(6)?,
+        set: parse_set(fields[7])?,
+        memory,
+    })
+}
+
+pub fn show_case(case: &Case) -> String {
+    match case {
+        Case::Suffix { word, greater } => format!("msuf {} {}", show_word(word), *greater as u8),
+        Case::ReverseSuffix { word, known, greater } => {
+            format!("rmsuf {} {known} {}", show_word(word), *greater as u8)
+        }
+        Case::Prepare { needle, n } => format!("prep {} {n}", show_word(needle)),
+        Case::Search { needle, haystack, backward } => {
+            let name = if *backward { "rfind" } else { "find" };
+            format!("{name} {} {}", show_word(needle), show_word(haystack))
+        }
+        Case::Call { call, needle, haystack, state } => {
+            let (name, state) = (call_name(*call), show_state(state));
+            format!("{name} {} {} {state}", show_word(needle), show_word(haystack))
+        }
+        Case::Walk { needle, haystack, script } => {
+            let script: String = script.iter().map(|&call| call_letter(call) as char).collect();
+            format!("walk {} {} {script}", show_word(needle), show_word(haystack))
+        }
+    }
+}
+
+pub fn show_word(word: &[u8]) -> String {
+    if word.is_empty() {
+        return "-".to_string();
+    }
+    word.iter().fold(String::with_capacity(2 * word.len()), |mut text, byte| {
+        write!(text, "{byte:02x}").expect("a String takes all that is written");
+        text
+    })
+}
+
+pub fn show_state(state: &State) -> String {
+    let State { m, n, position, end, c, b, p, set, memory } = state;
+    let numbers = format!("{m}:{n}:{position}:{end}:{c}:{b}:{p}:{set:016x}");
+    match memory {
+        Memory::Long => format!("L:{numbers}"),
+        Memory::Short { forward, backward } => format!("S:{numbers}:{forward}:{backward}"),
+    }
+}
+
+fn show_answer(answer: &Answer) -> String {
+    match answer {
+        Answer::Match(a, b) => format!("match:{a}:{b}"),
+        Answer::Reject(a, b) => format!("reject:{a}:{b}"),
+        Answer::Done => "done".to_string(),
+        Answer::None => "none".to_string(),
+        Answer::Refused(number) => format!("ref:{number}"),
+    }
+}
+
+pub fn show_reply(reply: &Reply) -> String {
+    match reply {
+        Reply::Suffix { start, period, rounds } => format!("ok {start} {period} {rounds}"),
+        Reply::ReverseSuffix { start, rounds } => format!("ok {start} {rounds}"),
+        Reply::Prepared { state, preparing } => format!("ok {} {preparing}", show_state(state)),
+        Reply::Found { position, counts } => {
+            let place = position.map_or("none".to_string(), |place| format!("at:{place}"));
+            format!("{place} {} {} {}", counts.preparing, counts.comparisons, counts.tests)
+        }
+        Reply::Called(Turn { answer, state, counts }) => {
+            let (answer, state) = (show_answer(answer), show_state(state));
+            format!("{answer} {state} {} {}", counts.comparisons, counts.tests)
+        }
+        Reply::Walked { preparing, turns, state } => {
+            let turns: String = turns.iter().map(show_turn).collect();
+            format!("ok {preparing} {turns}{}", show_state(state))
+        }
+        Reply::Refused(number) => format!("ref:{number}"),
+    }
+}
+
+/// With the space that parts it from what follows.
+fn show_turn((answer, counts): &(Answer, Counts)) -> String {
+    format!("{}/{}/{} ", show_answer(answer), counts.comparisons, counts.tests)
+}

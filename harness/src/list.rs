@@ -1,0 +1,327 @@
+//! The stored list of cases: small, the same at every run, and with something of every kind.
+
+use crate::case::*;
+use crate::examples;
+use crate::line;
+use crate::model::{fits, RULES};
+use crate::naive;
+use crate::scripts;
+use crate::states;
+use crate::words::{self, Dice, ALPHABETS};
+use std::collections::HashSet;
+
+/// The paper's pages.
+const SEED: u64 = 651_675;
+
+/// Words of the original's tests of the maximal suffix.
+const SUFFIX_WORDS: &[&str] = &[
+    "aab",
+    "aabaa",
+    "gcagagag",
+    "banana",
+    "zanana",
+    "bac",
+    "baaaaaaaa",
+    "babbabbab",
+    "bababa",
+    "abca",
+    "abcda",
+    "acba",
+    "abaaaba",
+    "caaaaaaaaacc",
+    "aabaab",
+    "baabaa",
+    "babbab",
+];
+
+/// Words and known periods of its tests of the reverse one.
+const REVERSE_WORDS: &[(&str, usize)] = &[("babbabbab", 3), ("bababa", 2), ("acba", 3)];
+
+/// Needles and haystacks that its tests walk through.
+const WALKED: &[(&str, &str)] = &[
+    ("aab", ""),
+    ("abaaaba", ""),
+    ("GCAGAGAG", "GCATCGCAGAGAGTATACAGTACG"),
+    ("nana", "banana"),
+    ("BDC\0", "BDC\0\0\0"),
+    ("ADA", "ADA\0"),
+    ("\0", "\0\0\0\0"),
+    ("aabaab", "aabaabx"),
+    ("ababab", "abababac"),
+    ("abab", "abababac"),
+    ("baabb", "baabbbaabc"),
+    ("aabaaaabaa", "aabaaaabaabxx"),
+    ("babbab", "babbabax"),
+    ("abca", "xacbaabcax"),
+    ("acba", "xacbaacbxxcba"),
+    ("αβ", "ααααααβ"),
+    ("aab", "aaable"),
+    ("aab", "aaabaabe"),
+    ("aaaa", "boyaaarateaaaade"),
+    ("aab", "bbbbbbbbb"),
+    ("aabaa", "aabaaabaaabaa"),
+    ("ababab", "cbcbabababab"),
+    ("aabaab", "abbaab"),
+];
+
+/// Its tests search this for each of its own parts.
+const SEARCHED: &str = "Việt Namacbaabcaabaaba";
+
+const MALFORMED: &[&str] = &[
+    "",
+    " ",
+    "-",
+    "find",
+    "find 61",
+    "find 61 ",
+    "find  61 6161",
+    " find 61 6161",
+    "find 61 6161 ",
+    "find 61 6161 61",
+    "find\t61\t6161",
+    "find 6 6161",
+    "find 61 616",
+    "find 6A 6161",
+    "find 61 61-",
+    "find -- 6161",
+    "find 0x61 6161",
+    "find é 6161",
+    "Find 61 6161",
+    "findb 61 6161",
+    "msuf 61",
+    "msuf 61 2",
+    "msuf 61 01",
+    "msuf 61 0 0",
+    "rmsuf 61 0",
+    "rmsuf 61 -1 0",
+    "rmsuf 61 +1 0",
+    "rmsuf 61 - 0",
+    "rmsuf 61 18446744073709551616 0",
+    "rmsuf 61 000000000000000000001 0",
+    "prep 61",
+    "prep 61 a",
+    "prep 61 1.0",
+    "prep 61 99999999999999999999",
+    "walk 61 6161",
+    "walk 61 6161 ",
+    "walk 61 6161 -",
+    "walk 61 6161 fx",
+    "walk 61 6161 f f",
+    "walk 61 6161 1",
+    "step 61 6161",
+    "step 61 6161 f",
+    "step 61 6161 -",
+    "step 61 6161 S:1:2:0:2:0:1:1:0000000200000000:0",
+    "step 61 6161 S:1:2:0:2:0:1:1:0000000200000000:0:1:1",
+    "step 61 6161 S:1:2:0:2:0:1:1:0000000200000000",
+    "step 61 6161 L:1:2:0:2:0:1:1:0000000200000000:0:1",
+    "step 61 6161 s:1:2:0:2:0:1:1:0000000200000000:0:1",
+    "step 61 6161 S:1:2:0:2:0:1:1:000000020000000:0:1",
+    "step 61 6161 S:1:2:0:2:0:1:1:00000002000000000:0:1",
+    "step 61 6161 S:1:2:0:2:0:1:1:000000020000000A:0:1",
+    "step 61 6161 S:1:2::2:0:1:1:0000000200000000:0:1",
+    "step 61 6161 S:1:2:0:2:0:1:-1:0000000200000000:0:1",
+    "step 61 6161 S:1:2:0:2:0:1:1:0000000200000000:0:18446744073709551616",
+    "next 61 6161 L:2:2:0:2:1:1:2:0000000200000000:",
+    "stepf 61 6161 S:1:2:0:2:0:1:1:0000000200000000:0:1",
+    "quit",
+];
+
+/// Well formed, though they look odd.
+const ODD: &[&str] = &[
+    "rmsuf 61 18446744073709551615 0",
+    "rmsuf 616261 00000000000000000002 1",
+    "prep 6162 18446744073709551615",
+    "prep 6162 007",
+    "step 61 6161 S:01:2:00:2:0:1:1:0000000200000000:0:1",
+    "step 61 6161 S:01:2:03:2:0:1:1:0000000200000000:0:1",
+    "nextb 61 6161 S:1:2:18446744073709551615:2:0:1:1:ffffffffffffffff:0:1",
+];
+
+struct List {
+    lines: Vec<String>,
+    seen: HashSet<String>,
+    dice: Dice,
+}
+
+pub fn lines() -> Vec<String> {
+    let mut list = List { lines: Vec::new(), seen: HashSet::new(), dice: Dice::new(SEED) };
+    list.texts(examples::TABLE.iter().map(|example| example.0));
+    list.source_tests();
+    list.tiny();
+    list.seeded();
+    list.large();
+    list.handed_in();
+    list.other_needle();
+    list.broken();
+    list.texts(ODD.iter().copied());
+    list.texts(MALFORMED.iter().copied());
+    list.lines
+}
+
+impl List {
+    /// Each line once.
+    fn text(&mut self, line: String) {
+        if self.seen.insert(line.clone()) {
+            self.lines.push(line);
+        }
+    }
+
+    fn texts<'a>(&mut self, lines: impl Iterator<Item = &'a str>) {
+        lines.for_each(|line| self.text(line.to_string()));
+    }
+
+    fn case(&mut self, case: Case) {
+        self.text(line::show_case(&case));
+    }
+
+    fn suffixes(&mut self, word: &[u8]) {
+        for greater in [false, true] {
+            self.case(Case::Suffix { word: word.to_vec(), greater });
+        }
+    }
+
+    fn reverse_suffixes(&mut self, word: &[u8], known: usize) {
+        for greater in [false, true] {
+            self.case(Case::ReverseSuffix { word: word.to_vec(), known, greater });
+        }
+    }
+
+    fn searches(&mut self, needle: &[u8], haystack: &[u8]) {
+        for backward in [false, true] {
+            let (needle, haystack) = (needle.to_vec(), haystack.to_vec());
+            self.case(Case::Search { needle, haystack, backward });
+        }
+    }
+
+    fn walk(&mut self, needle: &[u8], haystack: &[u8], script: Vec<Call>) {
+        let (needle, haystack) = (needle.to_vec(), haystack.to_vec());
+        self.case(Case::Walk { needle, haystack, script });
+    }
+
+    fn call(&mut self, call: Call, needle: &[u8], haystack: &[u8], state: State) {
+        let (needle, haystack) = (needle.to_vec(), haystack.to_vec());
+        self.case(Case::Call { call, needle, haystack, state });
+    }
+
+    fn source_tests(&mut self) {
+        for word in SUFFIX_WORDS {
+            self.suffixes(word.as_bytes());
+        }
+        for (word, known) in REVERSE_WORDS {
+            self.reverse_suffixes(word.as_bytes(), *known);
+        }
+        for (needle, haystack) in WALKED {
+            let (needle, haystack) = (needle.as_bytes(), haystack.as_bytes());
+            self.case(Case::Prepare { needle: needle.to_vec(), n: haystack.len() });
+            for call in Call::ALL {
+                self.walk(needle, haystack, scripts::whole(needle, haystack, &[call]));
+            }
+        }
+        let searched = SEARCHED.as_bytes();
+        let ends: Vec<usize> =
+            (0..=searched.len()).filter(|&end| SEARCHED.is_char_boundary(end)).collect();
+        for (i, start) in ends.iter().enumerate() {
+            for end in &ends[i + 1..] {
+                self.searches(&searched[*start..*end], searched);
+            }
+        }
+    }
+
+    /// Every word of a few letters.
+    fn tiny(&mut self) {
+        for word in words::up_to(b"ab", 4) {
+            self.suffixes(&word);
+        }
+        for word in words::up_to(b"ab", 3) {
+            for known in 0..=word.len() + 1 {
+                self.reverse_suffixes(&word, known);
+            }
+        }
+        for needle in words::up_to(b"ab", 2) {
+            for haystack in words::all(b"ab", 3) {
+                self.searches(&needle, &haystack);
+            }
+        }
+    }
+
+    fn seeded(&mut self) {
+        for _ in 0..25 {
+            let (word, _) = words::pair(&mut self.dice, 24, 0);
+            let any = self.dice.between(0, word.len() + 1);
+            self.suffixes(&word);
+            self.reverse_suffixes(&word, naive::smallest_period(&word));
+            self.reverse_suffixes(&word, any);
+            self.case(Case::Prepare { needle: word, n: any });
+        }
+        for _ in 0..50 {
+            let (needle, haystack) = words::pair(&mut self.dice, 12, 48);
+            self.searches(&needle, &haystack);
+        }
+        for _ in 0..80 {
+            let (needle, haystack) = words::pair(&mut self.dice, 9, 30);
+            let round = self.dice.pick(&Call::ALL);
+            self.walk(&needle, &haystack, scripts::whole(&needle, &haystack, &[round]));
+            let calls = self.dice.between(2, 12);
+            let script = (0..calls).map(|_| self.dice.pick(&Call::ALL)).collect();
+            self.walk(&needle, &haystack, script);
+        }
+    }
+
+    /// The words that are worst for one searcher or another, up to 4,096 bytes.
+    fn large(&mut self) {
+        let mut odd_end = words::power(b"a", 1500);
+        odd_end[1499] = b'b';
+        let run = words::power(b"a", 4096);
+        self.searches(&odd_end, &run);
+        let fibonacci = words::fibonacci(*b"ab", 2584);
+        self.walk(&fibonacci[..610], &fibonacci, vec![Call::Next; 4]);
+        self.walk(&fibonacci[..377], &fibonacci[..1597], vec![Call::NextBack; 4]);
+        let thue_morse = words::thue_morse(*b"ab", 1024);
+        self.walk(&thue_morse[3..250], &thue_morse, vec![Call::Next, Call::NextBack, Call::Step]);
+        self.suffixes(&thue_morse);
+        let letters = ALPHABETS[2];
+        let needle = words::random(&mut self.dice, letters, 4096);
+        self.case(Case::Prepare { needle, n: 67_108_864 });
+    }
+
+    /// Fitting states that belong to no needle in particular.
+    fn handed_in(&mut self) {
+        for _ in 0..120 {
+            let (needle, haystack) = words::pair(&mut self.dice, 6, 14);
+            let (m, n) = (needle.len(), haystack.len());
+            let any = self.dice.roll();
+            let own = RULES.prepare(&needle, n).0.set;
+            let set = self.dice.pick(&[own, own, u64::MAX, 0, any]);
+            let state = states::any_fitting(&mut self.dice, m, n, set);
+            let call = self.dice.pick(&Call::ALL);
+            self.call(call, &needle, &haystack, state);
+        }
+    }
+
+    /// States prepared for another needle of the same length.
+    fn other_needle(&mut self) {
+        for i in 0..40 {
+            let (needle, haystack) = words::pair(&mut self.dice, 8, 20);
+            let letters = self.dice.pick(&ALPHABETS);
+            let other = words::structured(&mut self.dice, letters, needle.len());
+            let (state, _) = RULES.prepare(&other, haystack.len());
+            self.call(Call::ALL[i % 4], &needle, &haystack, state);
+        }
+    }
+
+    /// States that don't fit by one number alone, of both kinds and by every field.
+    fn broken(&mut self) {
+        let pairs: [(&[u8], &[u8]); 2] = [(b"aabaab", b"aabaabxaa"), (b"baabb", b"baabbbaabc")];
+        let mut calls = Call::ALL.into_iter().cycle();
+        for (needle, haystack) in pairs {
+            let (m, n) = (needle.len(), haystack.len());
+            let (state, _) = RULES.prepare(needle, n);
+            for state in states::with_one_change(&state) {
+                if let Some(call) = calls.next().filter(|_| !fits(&state, m, n)) {
+                    self.call(call, needle, haystack, state);
+                }
+            }
+        }
+    }
+}

@@ -1,0 +1,478 @@
+//! Document 01 as a program, written from its text and not from the Rust.
+//!
+//! Sentences in quotes are 01's. `Fault` puts one wrong thing into it on purpose, so that
+//! `oracle break` can show that the comparison with the Rust would notice.
+
+use crate::case::*;
+use crate::naive;
+use std::cmp::{max, min};
+
+pub const HAYSTACK_BOUND: usize = 67_108_864;
+pub const NEEDLE_BOUND: usize = 65_536;
+
+#[derive(Clone, Copy, Debug, PartialEq, Eq)]
+pub enum Fault {
+    None,
+    DifferenceNotCounted,
+    MemoryKeptAfterSkip,
+    MemoryKeptAfterRightDifference,
+    BackwardMemoryKeptAfterLeftDifference,
+    BackSplitFromForward,
+    LongStoresSmallestPeriod,
+    LongPeriodTakenAsPeriod,
+    LongMovesByNeedle,
+    RejectForEver,
+    SharedMemory,
+    NarrowFingerprint,
+    KnownPeriodBeforeRound,
+    BackwardMemoryIndexIncluded,
+    RefusalsInOtherOrder,
+}
+
+pub struct Model {
+    pub fault: Fault,
+}
+
+/// 01 without a fault.
+pub const RULES: Model = Model { fault: Fault::None };
+
+/// The lengths and the state that the refusals look at.
+struct Asked<'a> {
+    m: usize,
+    n: usize,
+    walking: bool,
+    state: Option<&'a State>,
+}
+
+/// What a maximal suffix pass finds, and its rounds.
+pub struct Pass {
+    pub start: usize,
+    pub period: usize,
+    pub rounds: u64,
+}
+
+/// A call in progress.
+struct Walk<'a> {
+    needle: &'a [u8],
+    haystack: &'a [u8],
+    state: State,
+    counts: Counts,
+}
+
+/// "A state fits a needle and haystack when all hold"
+pub fn fits(state: &State, m: usize, n: usize) -> bool {
+    let State { c, b, p, .. } = *state;
+    let lengths = state.m == m && state.n == n;
+    let cursors = state.position <= n && state.end <= n;
+    let splits = match state.memory {
+        Memory::Short { forward, backward } => {
+            c < p
+                && p <= m
+                && b > m - p
+                && b <= m
+                && (forward == 0 || forward == m - p)
+                && (backward == m || backward == p)
+        }
+        Memory::Long => 1 <= c && c < m && b == c && p == max(c, m - c) + 1,
+    };
+    lengths && cursors && splits
+}
+
+/// "the number, counts 0, no position"
+fn refused(number: u8, state: State) -> Turn {
+    Turn { answer: Answer::Refused(number), state, counts: Counts::default() }
+}
+
+impl Model {
+    pub fn reply(&self, case: &Case) -> Reply {
+        match (self.refusal_of(case), case) {
+            // "A call that takes a state hands back that same state on a refusal."
+            (Some(number), Case::Call { state, .. }) => Reply::Called(refused(number, *state)),
+            (Some(number), _) => Reply::Refused(number),
+            (None, _) => self.accepted(case),
+        }
+    }
+
+    fn accepted(&self, case: &Case) -> Reply {
+        match case {
+            Case::Suffix { word, greater } => {
+                let Pass { start, period, rounds } = self.maximal_suffix(word, *greater);
+                Reply::Suffix { start, period, rounds }
+            }
+            Case::ReverseSuffix { word, known, greater } => {
+                let pass = self.reverse_maximal_suffix(word, *known, *greater);
+                Reply::ReverseSuffix { start: pass.start, rounds: pass.rounds }
+            }
+            Case::Prepare { needle, n } => {
+                let (state, preparing) = self.prepare(needle, *n);
+                Reply::Prepared { state, preparing }
+            }
+            Case::Search { needle, haystack, backward } => self.search(needle, haystack, *backward),
+            Case::Call { call, needle, haystack, state } => {
+                Reply::Called(self.call(*call, needle, haystack, *state))
+            }
+            Case::Walk { needle, haystack, script } => self.walk(needle, haystack, script),
+        }
+    }
+
+    /// The refusal that 01 gives to a case, if any.
+    pub fn refusal_of(&self, case: &Case) -> Option<u8> {
+        let (m, n, walking, state) = match case {
+            // "The two maximal suffix calls make only check 2, on their word."
+            Case::Suffix { word, .. } | Case::ReverseSuffix { word, .. } => {
+                (word.len(), 0, false, None)
+            }
+            Case::Prepare { needle, n } => (needle.len(), *n, true, None),
+            Case::Search { needle, haystack, .. } => (needle.len(), haystack.len(), false, None),
+            Case::Call { needle, haystack, state, .. } => {
+                (needle.len(), haystack.len(), true, Some(state))
+            }
+            Case::Walk { needle, haystack, .. } => (needle.len(), haystack.len(), true, None),
+        };
+        self.refusal(&Asked { m, n, walking, state })
+    }
+
+    /// "Checks run in the order 1, 2, 3, 4, and the first that applies is the answer"
+    fn refusal(&self, asked: &Asked) -> Option<u8> {
+        let mut checks = [
+            (1, asked.n > HAYSTACK_BOUND),
+            (2, asked.m > NEEDLE_BOUND),
+            (3, asked.walking && asked.m == 0),
+            (4, asked.state.is_some_and(|state| !fits(state, asked.m, asked.n))),
+        ];
+        if self.fault == Fault::RefusalsInOtherOrder {
+            checks.reverse();
+        }
+        checks.iter().find(|check| check.1).map(|check| check.0)
+    }
+
+    pub fn maximal_suffix(&self, word: &[u8], greater: bool) -> Pass {
+        self.pass(word, greater, None)
+    }
+
+    /// "does the same on the reversed word, gives the start only, and stops after the first
+    /// round in which its current period equals the known one"
+    pub fn reverse_maximal_suffix(&self, word: &[u8], known: usize, greater: bool) -> Pass {
+        self.pass(&naive::reversed(word), greater, Some(known))
+    }
+
+    /// The rounds are those of the paper, in its own numbering from 1: the greatest suffix so
+    /// far starts behind place i, the one tried behind j, and a round compares their k-th
+    /// letters; p is the period of the greatest one as far as it was read.
+    fn pass(&self, word: &[u8], greater: bool, known: Option<usize>) -> Pass {
+        let letter = |place: usize| word[place - 1];
+        let before = self.fault == Fault::KnownPeriodBeforeRound;
+        let (mut i, mut j, mut k, mut p) = (0, 1, 1, 1);
+        let mut rounds = 0;
+        while j + k <= word.len() {
+            if before && known == Some(p) {
+                break;
+            }
+            rounds += 1;
+            let (tried, best) = (letter(j + k), letter(i + k));
+            let less = if greater { tried > best } else { tried < best };
+            if tried == best && k == p {
+                (j, k) = (j + p, 1);
+            } else if tried == best {
+                k += 1;
+            } else if less {
+                (j, k) = (j + k, 1);
+                p = j - i;
+            } else {
+                (i, j, k, p) = (j, j + 1, 1, 1);
+            }
+            if !before && known == Some(p) {
+                break;
+            }
+        }
+        Pass { start: i, period: p, rounds }
+    }
+
+    /// The state and the preparing count, for a needle and a length that are not refused.
+    pub fn prepare(&self, needle: &[u8], n: usize) -> (State, u64) {
+        let m = needle.len();
+        // 1. "Take the false order's pair if its start is strictly greater, else the true
+        // order's."
+        let low = self.maximal_suffix(needle, false);
+        let high = self.maximal_suffix(needle, true);
+        let chosen = if low.start > high.start { &low } else { &high };
+        let (c, p) = (chosen.start, chosen.period);
+        // 2. "Compare the needle's first c bytes with the c bytes that start at p, left to
+        // right, stopping at the first difference."
+        let equal = (0..c).take_while(|&i| needle[i] == needle[p + i]).count();
+        let pairs = min(equal + 1, c) as u64;
+        let mut preparing = low.rounds + high.rounds + pairs;
+        let mut state =
+            State { m, n, position: 0, end: n, c, b: c, p, set: 0, memory: Memory::Long };
+        if equal == c {
+            preparing += self.become_short(needle, &mut state);
+        } else {
+            self.become_long(needle, &mut state);
+        }
+        (state, preparing)
+    }
+
+    /// 3. Gives the rounds of the two reverse passes.
+    fn become_short(&self, needle: &[u8], state: &mut State) -> u64 {
+        let low = self.reverse_maximal_suffix(needle, state.p, false);
+        let high = self.reverse_maximal_suffix(needle, state.p, true);
+        if self.fault != Fault::BackSplitFromForward {
+            state.b = state.m - max(low.start, high.start);
+        }
+        state.set = self.fingerprint(&needle[..state.p]);
+        state.memory = Memory::Short { forward: 0, backward: state.m };
+        low.rounds + high.rounds
+    }
+
+    /// 4.
+    fn become_long(&self, needle: &[u8], state: &mut State) {
+        state.p = max(state.c, state.m - state.c) + 1;
+        if self.fault == Fault::LongStoresSmallestPeriod {
+            state.p = naive::smallest_period(needle);
+        }
+        if self.fault == Fault::LongPeriodTakenAsPeriod {
+            state.memory = Memory::Short { forward: 0, backward: state.m };
+        }
+        state.set = self.fingerprint(needle);
+    }
+
+    /// "A byte sets bit (byte AND 63) of the fingerprint."
+    fn bit(&self, byte: u8) -> u64 {
+        let mask = if self.fault == Fault::NarrowFingerprint { 31 } else { 63 };
+        1 << (byte & mask)
+    }
+
+    fn fingerprint(&self, bytes: &[u8]) -> u64 {
+        bytes.iter().fold(0, |set, &byte| set | self.bit(byte))
+    }
+
+    /// One call that takes a state.
+    pub fn call(&self, call: Call, needle: &[u8], haystack: &[u8], state: State) -> Turn {
+        let (m, n) = (needle.len(), haystack.len());
+        if let Some(number) = self.refusal(&Asked { m, n, walking: true, state: Some(&state) }) {
+            return refused(number, state);
+        }
+        let mut walk = Walk { needle, haystack, state, counts: Counts::default() };
+        let answer = match call {
+            Call::Step => self.forward(&mut walk, true),
+            Call::StepBack => self.backward(&mut walk, true),
+            Call::Next => self.forward(&mut walk, false),
+            Call::NextBack => self.backward(&mut walk, false),
+        };
+        Turn { answer, state: walk.state, counts: walk.counts }
+    }
+
+    /// `stepping` is false for next match: "the same without Done and without the middle
+    /// Reject, answering none instead of the last Reject".
+    fn forward(&self, walk: &mut Walk, stepping: bool) -> Answer {
+        let (m, n, old) = (walk.state.m, walk.state.n, walk.state.position);
+        if stepping && old == n && self.fault != Fault::RejectForEver {
+            return Answer::Done;
+        }
+        loop {
+            let position = walk.state.position;
+            let last = position + m - 1;
+            if last >= n {
+                walk.state.position = n;
+                return if stepping { Answer::Reject(old, n) } else { Answer::None };
+            }
+            if stepping && position != old {
+                return Answer::Reject(old, position);
+            }
+            if self.forward_window(walk, last) {
+                return Answer::Match(position, position + m);
+            }
+        }
+    }
+
+    /// Looks at the window that ends with index `last`, and moves; says whether the needle is
+    /// there.
+    fn forward_window(&self, walk: &mut Walk, last: usize) -> bool {
+        let State { m, c, p, position, .. } = walk.state;
+        if !self.test(walk, last) {
+            walk.state.position += m;
+            self.forget_forward(walk, Fault::MemoryKeptAfterSkip);
+            return false;
+        }
+        // Long compares from c up and then down to 0, as a memory of 0 does.
+        let memory = match walk.state.memory {
+            Memory::Short { forward, .. } => forward,
+            Memory::Long => 0,
+        };
+        for i in max(c, memory)..m {
+            if self.differs(walk, i, position) {
+                walk.state.position += i - c + 1;
+                self.forget_forward(walk, Fault::MemoryKeptAfterRightDifference);
+                return false;
+            }
+        }
+        for i in (memory..c).rev() {
+            if self.differs(walk, i, position) {
+                walk.state.position += self.left_move(walk, p);
+                self.remember_forward(walk, m - p);
+                return false;
+            }
+        }
+        walk.state.position += m;
+        self.remember_forward(walk, 0);
+        true
+    }
+
+    /// "a difference moves by p"
+    fn left_move(&self, walk: &Walk, p: usize) -> usize {
+        let long = walk.state.memory == Memory::Long;
+        if long && self.fault == Fault::LongMovesByNeedle {
+            walk.state.m
+        } else {
+            p
+        }
+    }
+
+    fn backward(&self, walk: &mut Walk, stepping: bool) -> Answer {
+        let (m, n, old) = (walk.state.m, walk.state.n, walk.state.end);
+        if stepping && old == 0 && self.fault != Fault::RejectForEver {
+            return Answer::Done;
+        }
+        loop {
+            let end = walk.state.end;
+            // "The window starts at end-m by wrapping subtraction, and there is no room when
+            // that index is not inside the haystack"
+            let start = end.wrapping_sub(m);
+            if start >= n {
+                walk.state.end = 0;
+                return if stepping { Answer::Reject(0, old) } else { Answer::None };
+            }
+            if stepping && end != old {
+                return Answer::Reject(end, old);
+            }
+            if self.backward_window(walk, start) {
+                return Answer::Match(start, end);
+            }
+        }
+    }
+
+    fn backward_window(&self, walk: &mut Walk, start: usize) -> bool {
+        let State { m, b, p, .. } = walk.state;
+        if !self.test(walk, start) {
+            walk.state.end -= m;
+            self.remember_backward(walk, m);
+            return false;
+        }
+        // Long compares from b-1 down and then up to m, as a memory of m does.
+        let memory = match walk.state.memory {
+            Memory::Short { backward, .. } => backward,
+            Memory::Long => m,
+        };
+        for i in (0..min(b, memory)).rev() {
+            if self.differs(walk, i, start) {
+                walk.state.end -= b - i;
+                if self.fault != Fault::BackwardMemoryKeptAfterLeftDifference {
+                    self.remember_backward(walk, m);
+                }
+                return false;
+            }
+        }
+        let included = (self.fault == Fault::BackwardMemoryIndexIncluded && memory < m) as usize;
+        for i in b..memory + included {
+            if self.differs(walk, i, start) {
+                walk.state.end -= self.left_move(walk, p);
+                self.remember_backward(walk, p);
+                return false;
+            }
+        }
+        walk.state.end -= m;
+        self.remember_backward(walk, m);
+        true
+    }
+
+    /// "Tests: one for each fingerprint test"
+    fn test(&self, walk: &mut Walk, index: usize) -> bool {
+        walk.counts.tests += 1;
+        walk.state.set & self.bit(walk.haystack[index]) != 0
+    }
+
+    /// "Comparisons: one for each needle byte set against a haystack byte, the differing one
+    /// included."
+    fn differs(&self, walk: &mut Walk, i: usize, start: usize) -> bool {
+        let differs = walk.needle[i] != walk.haystack[start + i];
+        if !(differs && self.fault == Fault::DifferenceNotCounted) {
+            walk.counts.comparisons += 1;
+        }
+        differs
+    }
+
+    fn forget_forward(&self, walk: &mut Walk, kept: Fault) {
+        if self.fault != kept {
+            self.remember_forward(walk, 0);
+        }
+    }
+
+    /// "In either direction only Short sets memory; Long has none."
+    fn remember_forward(&self, walk: &mut Walk, value: usize) {
+        if let Memory::Short { forward, backward } = &mut walk.state.memory {
+            *forward = value;
+            if self.fault == Fault::SharedMemory {
+                *backward = walk.state.m - value;
+            }
+        }
+    }
+
+    fn remember_backward(&self, walk: &mut Walk, value: usize) {
+        if let Memory::Short { forward, backward } = &mut walk.state.memory {
+            *backward = value;
+            if self.fault == Fault::SharedMemory {
+                *forward = walk.state.m - value;
+            }
+        }
+    }
+
+    /// "Empty needle: find 0, rfind n. One byte: a scan from the front or back. Otherwise
+    /// prepare, then one next match."
+    fn search(&self, needle: &[u8], haystack: &[u8], backward: bool) -> Reply {
+        let n = haystack.len();
+        if needle.is_empty() {
+            let position = Some(if backward { n } else { 0 });
+            return Reply::Found { position, counts: Counts::default() };
+        }
+        if needle.len() == 1 {
+            return self.scan(needle[0], haystack, backward);
+        }
+        let (state, preparing) = self.prepare(needle, n);
+        let call = if backward { Call::NextBack } else { Call::Next };
+        let turn = self.call(call, needle, haystack, state);
+        let position = match turn.answer {
+            Answer::Match(start, _) => Some(start),
+            _ => None,
+        };
+        Reply::Found { position, counts: Counts { preparing, ..turn.counts } }
+    }
+
+    /// "the scan compares up to and including the hit, or all n bytes if there is none"
+    fn scan(&self, byte: u8, haystack: &[u8], backward: bool) -> Reply {
+        let n = haystack.len();
+        let mut counts = Counts::default();
+        for i in 0..n {
+            let place = if backward { n - 1 - i } else { i };
+            let hit = haystack[place] == byte;
+            if hit || self.fault != Fault::DifferenceNotCounted {
+                counts.comparisons += 1;
+            }
+            if hit {
+                return Reply::Found { position: Some(place), counts };
+            }
+        }
+        Reply::Found { position: None, counts }
+    }
+
+    /// Preparing, then the calls of the script, each with the state of the one before.
+    fn walk(&self, needle: &[u8], haystack: &[u8], script: &[Call]) -> Reply {
+        let (mut state, preparing) = self.prepare(needle, haystack.len());
+        let mut turns = Vec::with_capacity(script.len());
+        for &call in script {
+            let turn = self.call(call, needle, haystack, state);
+            turns.push((turn.answer, turn.counts));
+            state = turn.state;
+        }
+        Reply::Walked { preparing, turns, state }
+    }
+}

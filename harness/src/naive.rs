@@ -1,0 +1,45 @@
+//! The meanings that 01 promises, computed from their definitions, with nothing of the
+//! algorithm in them.
+
+pub fn reversed(word: &[u8]) -> Vec<u8> {
+    word.iter().rev().copied().collect()
+}
+
+/// The least occurrence of the needle at `from` or later.
+pub fn least(needle: &[u8], haystack: &[u8], from: usize) -> Option<usize> {
+    let m = needle.len();
+    (from..(haystack.len() + 1).saturating_sub(m)).find(|&i| haystack[i..i + m] == *needle)
+}
+
+pub fn greatest(needle: &[u8], haystack: &[u8]) -> Option<usize> {
+    let m = needle.len();
+    (0..(haystack.len() + 1).saturating_sub(m)).rfind(|&i| haystack[i..i + m] == *needle)
+}
+
+/// The occurrences from the left, each the least one behind the one before.
+pub fn greedy(needle: &[u8], haystack: &[u8]) -> Vec<usize> {
+    let mut list = Vec::new();
+    let mut from = 0;
+    while let Some(i) = least(needle, haystack, from) {
+        list.push(i);
+        from = i + needle.len();
+    }
+    list
+}
+
+/// "A period of a nonempty word x is a number r, 0 < r <= |x|, with x[i] = x[i+r] wherever
+/// both exist." For an empty word 1, as 01 asks of its maximal suffix.
+pub fn smallest_period(word: &[u8]) -> usize {
+    let m = word.len();
+    (1..=m).find(|&r| word[r..] == word[..m - r]).unwrap_or(1)
+}
+
+/// Start and smallest period of the greatest suffix.
+pub fn maximal_suffix(word: &[u8], greater: bool) -> (usize, usize) {
+    // The order with bytes reversed is the byte order of the complements; in both a proper
+    // prefix is less than the longer word.
+    let flip = if greater { 255 } else { 0 };
+    let word: Vec<u8> = word.iter().map(|byte| byte ^ flip).collect();
+    let start = (0..word.len()).max_by_key(|&i| &word[i..]).unwrap_or(0);
+    (start, smallest_period(&word[start..]))
+}
