@@ -154,7 +154,7 @@ module _ (v : Plan) (x h : Word) where
         go w (Way.whole _ _) = passed-right s true (v .shift) (v .kept) (v .split - s .memory) (shape .shift-ahead) (shape .kept-fits) (shape .shift-reach) (omega arith)
 
     -- a window with room spends no more than its move allows
-    spent-window : (a : ℕ) (s : Cursor) (d t : ℕ) → s .at + x .size ≤ h .size → Spent v (x .size) (h .size) a s d t
+    pub spent-window : (a : ℕ) (s : Cursor) (d t : ℕ) → s .at + x .size ≤ h .size → Spent v (x .size) (h .size) a s d t
         → let w = forwardWindow v x h s in Spent v (x .size) (h .size) a (w .next) (d + w .comparisons) (t + 1)
     spent-window a s d t room p =
         let w = moves s in

@@ -114,16 +114,21 @@ module _ (f : ℕ → Bool) where
         ]
       ]
 
-  -- what a search that passed every number before k shows of it
+  -- what a search that passed every number from i up to k shows of k
+  pub first-at : (n i k : ℕ) → i ≤ k → k < i + n → f k ≡ true → ((j : ℕ) → i ≤ j → j < k → f j ≡ false) → firstFrom n i f ≡ k
+  first-at n i k l h e m =
+      first-alone n i (firstFrom n i f) k (first-is n i) (record { low = l; high = omega arith; found = λ y. e; missed = m })
+
+  pub first-none : (n i : ℕ) → ((j : ℕ) → i ≤ j → j < i + n → f j ≡ false) → firstFrom n i f ≡ i + n
+  first-none n i m =
+      first-alone n i (firstFrom n i f) (i + n) (first-is n i)
+      (record { low = omega arith; high = omega arith; found = λ y. absurd (omega arith); missed = m })
+
   pub least-at : (n k : ℕ) → k < n → f k ≡ true → ((j : ℕ) → j < k → f j ≡ false) → least n f ≡ k
-  least-at n k h e m =
-      first-alone n 0 (least n f) k (first-is n 0)
-      (record { low = omega arith; high = omega arith; found = λ y. e; missed = λ j a b. m j b })
+  least-at n k h e m = first-at n 0 k (omega arith) (omega arith) e (λ j l. m j)
 
   pub least-none : (n : ℕ) → ((j : ℕ) → j < n → f j ≡ false) → least n f ≡ n
-  least-none n m =
-      first-alone n 0 (least n f) n (first-is n 0)
-      (record { low = omega arith; high = omega arith; found = λ y. absurd (omega arith); missed = λ j a b. m j b })
+  least-none n m = first-none n 0 (λ j l h. m j (omega arith)) ∙ omega arith
 
 -- of two least numbers, or two greatest, there is only one
 pub least-alone : (P : ℕ → Type 0) (a b : ℕ) → Least P a → Least P b → a ≡ b

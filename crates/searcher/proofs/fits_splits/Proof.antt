@@ -1,0 +1,30 @@
+-- `searcher::fits_splits` meets its contract.
+-- Assumes nothing.
+use mathlib.Core.Path.{_≡_, sym, _∙_, ap, subst}
+use Rattle.searcher.specs.Record.{fitsSplits}
+use borrow.Author.Needs.{needs}
+use Rattle.searcher.proofs.fits_splits.Statement.{statement}
+use Rattle.searcher.proofs.fits_splits.Tie as tie
+
+enum-told : tie.Need-enum-told
+enum-told c = search needs
+
+fits-long-requires : tie.Need-fits-long-requires
+fits-long-requires c κs = search needs
+
+enum-known-memory : tie.Need-enum-known-memory
+enum-known-memory c = search needs
+
+fits-short-requires : tie.Need-fits-short-requires
+fits-short-requires c κs = search needs
+
+returns : tie.Need-returns
+returns c = let a = c .before .before .before .args in c .fits-long .ensures ∙ sym (ap (fitsSplits (a .m) (a .c) (a .b) (a .p)) (c .before .enum-told .given .1))
+
+returns-2 : tie.Need-returns-2
+returns-2 c = let a = c .before .before .before .before .args in c .fits-short .ensures ∙ sym (ap (fitsSplits (a .m) (a .c) (a .b) (a .p)) (c .before .before .memory .given .1))
+
+pub fits-splits-spec : {M : Type 1} → statement M
+fits-splits-spec =
+    tie.close
+    (tie.spec enum-told fits-long-requires enum-known-memory fits-short-requires returns returns-2)

@@ -1,0 +1,22 @@
+-- `searcher::kinds::set_forward` meets its contract.
+-- Assumes nothing.
+use mathlib.Core.Path.{_≡_, sym, _∙_, ap}
+use Rattle.searcher.specs.Walk.{setForward}
+use borrow.Author.Needs.{needs}
+use Rattle.searcher.proofs.kinds.set_forward.Statement.{statement}
+use Rattle.searcher.proofs.kinds.set_forward.Tie as tie
+
+enum-told : tie.Need-enum-told
+enum-told c = search needs
+
+enum-known-memory : tie.Need-enum-known-memory
+enum-known-memory c = search needs
+
+returns : tie.Need-returns
+returns c = search needs
+
+returns-2 : tie.Need-returns-2
+returns-2 c = sym (ap (setForward (c .before .before .before .args .k)) (c .before .memory .given .1))
+
+pub set-forward-spec : {M : Type 1} → statement M
+set-forward-spec = tie.close (tie.spec enum-told enum-known-memory returns returns-2)
