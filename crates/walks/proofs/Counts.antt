@@ -10,6 +10,7 @@ use lib.Dec.{ltb, eqb}
 use borrow.Author.Tests.{ltb-true, le-ltb}
 use Rattle.words.specs.Word.{Word}
 use Rattle.walks.specs.Window.{Plan, Cursor, Turn, turn, forwardWindow}
+use Rattle.walks.specs.Bounds.{Bounded}
 use Rattle.walks.specs.Search.{Stop, Searched, ended, moved-to, forwardSearch}
 use Rattle.walks.proofs.Shape.{Shape}
 use Rattle.walks.proofs.Ways.{Way, forward-way}
@@ -33,13 +34,6 @@ pub data Sets (v : Plan) (memory : ℕ) : Type 0 where
   cleared : memory ≡ 0 → Sets v memory
   by-difference : memory ≡ v .keep → Sets v memory
   by-match : memory ≡ v .kept → Sets v memory
-
--- What a walk over k letters may cost with a needle of m: at most 2k-m comparisons and k-m+1 tests if m is at most k, else none.
-pub record Bounded (m k comparisons tests : ℕ) : Type 0 where
-  pub comparisons-most : m ≤ k → comparisons ≤ 2 * k - m
-  pub tests-most : m ≤ k → tests ≤ k - m + 1
-  pub comparisons-none : k < m → comparisons ≡ 0
-  pub tests-none : k < m → tests ≡ 0
 
 -- What a walk has spent since it stood at a, now that it stands at s, in a haystack of n letters.
 pub record Spent (v : Plan) (m n a : ℕ) (s : Cursor) (comparisons tests : ℕ) : Type 0 where

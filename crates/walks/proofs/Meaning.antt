@@ -1,24 +1,26 @@
 -- What a forward search means, for a plan that guides it: a hit is the least occurrence from the cursor on, and what is passed over holds none.
 -- So the hits of a whole walk are the greedy leftmost list. Assumes nothing.
 use Prim.Native.Nat.{ℕ, zero, suc, _+_, _-_, _<_, _≤_}
-use mathlib.Core.Path.{_≡_, refl, subst}
+use mathlib.Core.Path.{_≡_, refl, sym, _∙_, subst}
 use mathlib.Core.Bool.{Bool, true, false, cond, not, _&&_, false≢true}
 use mathlib.Core.List.{List, [], _∷_}
 use native.Mathlib.Omega.{arith}
 use native.Mathlib.Decide.{decLt}
 use lib.Dec.{ltb, eqb}
-use borrow.Author.Tests.{ltb-true, ltb-false, eqb-false}
+use borrow.Author.Tests.{ltb-true, ltb-false, eqb-true, eqb-false}
 use Rattle.words.specs.Word.{Word}
 use Rattle.words.specs.Choice.{Least, None, FindsLeast}
 use Rattle.words.specs.Occurs.{OccursFrom, Leftmost}
+use Rattle.words.proofs.Tests.{least-same}
 use Rattle.walks.specs.Window.{Plan, Cursor, Turn, forwardWindow}
 use Rattle.walks.specs.Search.{Stop, Searched, ended, moved-to, forwardSearch}
 use Rattle.walks.specs.Meaning.{Guides, Gap, place}
 use Rattle.walks.proofs.Windows.{Sound, Skips, WindowMeans, window-means}
 
--- What each end of a search from a says, where the cursor then stands at b. Only a step, which is `early`, ends between two windows, and then it has moved.
+-- What each end of a search from a says, where the cursor then stands at b.
+-- Only a step, which is `early`, ends between two windows, and then it has moved; so its hit is where it started.
 abbrev pub Meant : Plan → Word → Word → Bool → ℕ → ℕ → ℕ → Stop → Type 0
-Meant v x h early old a b (Stop.hit k) = Least (OccursFrom x h a) k × (b ≡ k + v .shift)
+Meant v x h early old a b (Stop.hit k) = Least (OccursFrom x h a) k × (b ≡ k + v .shift) × (early ≡ true → k ≡ old)
 Meant v x h early old a b Stop.passed = Skips x h a b × (early ≡ true) × (b ≡ old → ⊥)
 Meant v x h early old a b Stop.out = None (OccursFrom x h a) × (b ≡ h .size)
 
@@ -27,10 +29,6 @@ pub record SearchMeans (v : Plan) (x h : Word) (early : Bool) (old a : ℕ) (r :
   pub onward : a ≤ r .cursor .at
   pub sound : Sound x h (r .cursor)
   pub meant : Meant v x h early old a (r .cursor .at) (r .stop)
-
--- two properties that hold of the same numbers have the same least one
-least-same : {P Q : ℕ → Type 0} {k : ℕ} → ((j : ℕ) → P j → Q j) → ((j : ℕ) → Q j → P j) → Least P k → Least Q k
-least-same {k = k} to from l = record { holds = to k (l .holds); none-before = λ j hj q. l .none-before j hj (from j q) }
 
 -- Where no occurrence starts from a on and before b, those from a on are those from b on.
 module _ {x h : Word} {a b : ℕ} (on : a ≤ b) (skips : Skips x h a b) where
@@ -47,7 +45,7 @@ module _ {x h : Word} {a b : ℕ} (on : a ≤ b) (skips : Skips x h a b) where
       record { onward = omega arith; sound = m .sound; meant = go (r .stop) (m .meant) }
     where
       go : (t : Stop) → Meant v x h early old b (r .cursor .at) t → Meant v x h early old a (r .cursor .at) t
-      go (Stop.hit k) n = (least-same from-later from-earlier (n .0), n .1)
+      go (Stop.hit k) n = (least-same from-later from-earlier (n .0), n .1, n .2)
       go Stop.passed n = (λ j lo hi o. n .0 j (from-earlier j (lo, o) .0) hi o, n .1, n .2)
       go Stop.out n = (λ j o. n .0 j (from-earlier j o), n .1)
 
@@ -87,22 +85,22 @@ module _ {v : Plan} {x : Word} (g : Guides v x) (h : Word) (early : Bool) (old :
       shown : s .at + x .size ≤ h .size → WindowMeans v x h s w
       shown room = window-means g h s room (ok .remembers)
 
-      by-match : WindowMeans v x h s w → SearchMeans v x h early old (w .next .at) rest → (b : Bool) → w .matched ≡ b → Means (tried b)
-      by-match m later true e =
+      by-match : WindowMeans v x h s w → SearchMeans v x h early old (w .next .at) rest → (b : Bool) → w .matched ≡ b → (early ≡ true → s .at ≡ old) → Means (tried b)
+      by-match m later true e here =
           let on = m .onward in
           let first : Least (OccursFrom x h (s .at)) (s .at) = record { holds = (omega arith, m .occurs e); none-before = λ j hj o. let lo = o .0 in omega arith } in
-          record { onward = omega arith; sound = m .sound; meant = (first, m .shifts e) }
-      by-match m later false e = let on = m .onward in search-skip (omega arith) (m .skips e) later
+          record { onward = omega arith; sound = m .sound; meant = (first, m .shifts e, here) }
+      by-match m later false e here = let on = m .onward in search-skip (omega arith) (m .skips e) later
 
-      by-early : Means (tried (w .matched)) → (b o : Bool) → early ≡ b → eqb (s .at) old ≡ o → Means (cond (b && not o) (ended Stop.passed s comparisons tests) (tried (w .matched)))
+      by-early : ((early ≡ true → s .at ≡ old) → Means (tried (w .matched))) → (b o : Bool) → early ≡ b → eqb (s .at) old ≡ o → Means (cond (b && not o) (ended Stop.passed s comparisons tests) (tried (w .matched)))
       by-early m true false e f =
           record {
             onward = omega arith;
             sound = ok;
             meant = (λ j lo hi o. absurd (omega arith), e, eqb-false (s .at) old f);
           }
-      by-early m true true e f = m
-      by-early m false o e f = m
+      by-early m true true e f = m (λ y. eqb-true (s .at) old f)
+      by-early m false o e f = m (λ y. absurd (false≢true (sym e ∙ y)))
 
       by-room : (s .at + x .size ≤ h .size → SearchMeans v x h early old (w .next .at) rest) → (b : Bool) → ltb (s .at + (x .size - 1)) (h .size) ≡ b
           → Means (cond b (cond (early && not (eqb (s .at) old)) (ended Stop.passed s comparisons tests) (tried (w .matched))) (ended Stop.out (moved-to (h .size) s) comparisons tests))

@@ -2,3 +2,4 @@ pub mod Window
 pub mod Search
 pub mod Mirror
 pub mod Meaning
+pub mod Bounds

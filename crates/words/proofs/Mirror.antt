@@ -59,7 +59,7 @@ module _ (x h : Word) where
     from : (k : ℕ) → OccursUpTo x h e k → OccursFrom (mirror x) (mirror h) (h .size - e) (turned x h k)
     from k o = let f = o .1 .fits in let a = o .0 in (omega arith, occurs-mirror k (o .1))
 
-    least-greatest : (k : ℕ) → Least (OccursFrom (mirror x) (mirror h) (h .size - e)) k → Greatest (OccursUpTo x h e) (turned x h k)
+    pub least-greatest : (k : ℕ) → Least (OccursFrom (mirror x) (mirror h) (h .size - e)) k → Greatest (OccursUpTo x h e) (turned x h k)
     least-greatest k l =
         let f = l .holds .1 .fits in
         record {
@@ -67,8 +67,20 @@ module _ (x h : Word) where
           none-after = λ j hj o. let fj = o .1 .fits in l .none-before (turned x h j) (omega arith) (from j o);
         }
 
-    none-none : None (OccursFrom (mirror x) (mirror h) (h .size - e)) → None (OccursUpTo x h e)
+    pub none-none : None (OccursFrom (mirror x) (mirror h) (h .size - e)) → None (OccursUpTo x h e)
     none-none m k o = m (turned x h k) (from k o)
+
+    -- and the other way round
+    greatest-least : (k : ℕ) → Greatest (OccursUpTo x h e) k → Least (OccursFrom (mirror x) (mirror h) (h .size - e)) (turned x h k)
+    greatest-least k g =
+        let f = g .holds .1 .fits in
+        record {
+          holds = from k (g .holds);
+          none-before = λ j hj o. let fj = o .1 .fits in g .none-after (turned x h j) (omega arith) (up-to j o);
+        }
+
+    none-from : None (OccursUpTo x h e) → None (OccursFrom (mirror x) (mirror h) (h .size - e))
+    none-from m k o = m (turned x h k) (up-to k o)
 
   -- the rightmost list is the leftmost one of the mirrored words, each place counted from the other end
   pub rightmost-mirror : (gap e a : ℕ) (ks : List ℕ) → 0 < gap → gap ≤ x .size → e ≤ h .size → a ≡ h .size - e
@@ -80,6 +92,21 @@ module _ (x h : Word) where
       let f = lo .holds .1 .fits in
       let e′ = turned x h k + x .size - gap in
       Rightmost.hit (least-greatest e he k lo) (rightmost-mirror gap e′ (k + gap) ks pg hg (omega arith) (omega arith) r)
+
+  -- and the other way round
+  pub leftmost-mirror : (gap e a : ℕ) (ks : List ℕ) → gap ≤ x .size → e ≤ h .size → a ≡ h .size - e
+      → Rightmost x h gap e ks → Leftmost (mirror x) (mirror h) gap a (map (turned x h) ks)
+  leftmost-mirror gap e a [] hg he q (Rightmost.over m) = rw q (Leftmost.over (none-from e he m))
+  leftmost-mirror gap e a (k ∷ ks) hg he q (Rightmost.hit g r) =
+      let f = g .holds .1 .fits in
+      rw q
+      (Leftmost.hit (greatest-least e he k g) (leftmost-mirror gap (k + x .size - gap) (turned x h k + gap) ks hg (omega arith) (omega arith) r))
+
+  -- the places of a list, counted from the other end and back
+  pub rightmost-turned : (gap e : ℕ) (ks : List ℕ) → Rightmost x h gap e ks → map (turned x h) (map (turned x h) ks) ≡ ks
+  rightmost-turned gap e [] r = refl
+  rightmost-turned gap e (k ∷ ks) (Rightmost.hit g r) =
+      rw (turned-turned k (g .holds .1 .fits), rightmost-turned gap (k + x .size - gap) ks r)
 
 -- a period of the word is one of the word read from the back
 pub period-mirror : (x : Word) (r : ℕ) → Period x r → Period (mirror x) r

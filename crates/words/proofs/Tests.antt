@@ -145,6 +145,13 @@ greatest-alone P a b x y =
       | no h ↦ elim (decLt b a) [ yes z ↦ absurd (y .none-after a z (x .holds)) | no z ↦ omega arith ]
     ]
 
+-- two properties that hold of the same numbers have the same least one, and the same greatest
+pub least-same : {P Q : ℕ → Type 0} {k : ℕ} → ((j : ℕ) → P j → Q j) → ((j : ℕ) → Q j → P j) → Least P k → Least Q k
+least-same {k = k} to from l = record { holds = to k (l .holds); none-before = λ j hj q. l .none-before j hj (from j q) }
+
+pub greatest-same : {P Q : ℕ → Type 0} {k : ℕ} → ((j : ℕ) → P j → Q j) → ((j : ℕ) → Q j → P j) → Greatest P k → Greatest Q k
+greatest-same {k = k} to from g = record { holds = to k (g .holds); none-after = λ j hj q. g .none-after j hj (from j q) }
+
 -- the computed least number is the least at which P holds, where the test decides P below n and P holds of no other number
 module _ (P : ℕ → Type 0) (f : ℕ → Bool) (n : ℕ) (d : (i : ℕ) → i < n → Decides (P i) (f i)) where
   pub least-is : least n f < n → Least P (least n f)

@@ -1,0 +1,8 @@
+pub mod OneWay
+pub mod States
+pub mod Calls
+pub mod Walks
+pub mod Start
+pub mod Costs
+pub mod Answers
+pub mod Meaning

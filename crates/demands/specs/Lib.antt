@@ -1,0 +1,5 @@
+pub mod Allowed
+pub mod Reached
+pub mod Stays
+pub mod Means
+pub mod Costs

@@ -1,0 +1,114 @@
+-- Demand 2: what the answers and the matches of a walk mean, in the haystack's own places.
+-- Assumes nothing.
+use Prim.Native.Nat.{ℕ, _+_, _<_, _≤_}
+use mathlib.Core.Path.{_≡_}
+use mathlib.Core.Logic.{_⊎_}
+use mathlib.Core.List.{List, _++_}
+use lib.ListN.{length}
+use Rattle.words.specs.Word.{Word, front}
+use Rattle.words.specs.Choice.{Least, Greatest, None}
+use Rattle.words.specs.Occurs.{Occurs, OccursFrom, OccursUpTo, Leftmost, Rightmost}
+use Rattle.searcher.specs.Prepare.{prepareRule}
+use Rattle.searcher.specs.Walk.{nextRule, nextBackRule, nextMatchRule, nextMatchBackRule}
+use Rattle.searcher.specs.declared.Step.{Step}
+use Rattle.searcher.specs.declared.NextMatch.{NextMatch}
+use Rattle.demands.specs.Reached.{Call, History, reached}
+
+-- ---- an answer, for a needle x and a haystack h
+
+-- a next match, for a needle of m bytes: the least of the places that have P, and nothing exactly if there is none
+abbrev pub AnswersLeast : (ℕ → Type 0) → ℕ → NextMatch → Type 0
+AnswersLeast P m (NextMatch.Match k e) = Least P k × (e ≡ k + m)
+AnswersLeast P m NextMatch.Nothing = None P
+AnswersLeast P m (NextMatch.Refused why) = ⊥
+
+-- the same of the greatest
+abbrev pub AnswersGreatest : (ℕ → Type 0) → ℕ → NextMatch → Type 0
+AnswersGreatest P m (NextMatch.Match k e) = Greatest P k × (e ≡ k + m)
+AnswersGreatest P m NextMatch.Nothing = None P
+AnswersGreatest P m (NextMatch.Refused why) = ⊥
+
+-- A step forward, with `position` before and after it. It settles the part between the two, so the parts of steps in a row cover the haystack
+-- ("A step's Rejects cover what lies between"): a Match is the whole part, in a Reject no occurrence starts, and at Done nothing is left.
+abbrev pub StepMeans : Word → Word → ℕ → ℕ → Step → Type 0
+StepMeans x h before after (Step.Match a e) = (a ≡ before) × (e ≡ after) × (e ≡ a + x .size) × Occurs x h a
+StepMeans x h before after (Step.Reject a e) =
+    (a ≡ before) × (e ≡ after) × (a < e) × ((j : ℕ) → a ≤ j → j < e → Occurs x h j → ⊥)
+StepMeans x h before after Step.Done = (before ≡ h .size) × (after ≡ before)
+StepMeans x h before after (Step.Refused why) = ⊥
+
+-- A step backward, with `end` before and after it: in a Reject no occurrence ends.
+abbrev pub StepBackMeans : Word → Word → ℕ → ℕ → Step → Type 0
+StepBackMeans x h before after (Step.Match a e) = (e ≡ before) × (a ≡ after) × (e ≡ a + x .size) × Occurs x h a
+StepBackMeans x h before after (Step.Reject a e) =
+    (e ≡ before) × (a ≡ after) × (a < e) × ((j : ℕ) → a < j + x .size → j + x .size ≤ e → Occurs x h j → ⊥)
+StepBackMeans x h before after Step.Done = (before ≡ 0) × (after ≡ before)
+StepBackMeans x h before after (Step.Refused why) = ⊥
+
+-- ---- a history of calls
+
+module _ (needle haystack : List ℕ) (H : History) where
+  abbrev x : Word
+  x = front needle
+
+  abbrev h : Word
+  h = front haystack
+
+  -- The forward matches are the greedy leftmost occurrences that do not overlap, each once and none left out before `position`:
+  -- with the greedy list from there on they are the one from 0 on.
+  abbrev pub ForwardList : Type 0
+  ForwardList = (ks : List ℕ) → Leftmost x h (x .size) (H .walk .position) ks → Leftmost x h (x .size) 0 (H .forward .matches ++ ks)
+
+  -- once a next match has nothing to give, or a step is Done, they are the whole list
+  abbrev pub ForwardNone : Type 0
+  ForwardNone =
+      (nextMatchRule needle haystack (H .walk) .answer ≡ NextMatch.Nothing) ⊎ (nextRule needle haystack (H .walk) .answer ≡ Step.Done)
+      → Leftmost x h (x .size) 0 (H .forward .matches)
+
+  -- a next match gives the least occurrence from `position` on, "nothing exactly if there is none"
+  abbrev pub NextMatchMeans : Type 0
+  NextMatchMeans = AnswersLeast (OccursFrom x h (H .walk .position)) (x .size) (nextMatchRule needle haystack (H .walk) .answer)
+
+  -- a step settles what lies between `position` before and after it
+  abbrev pub NextMeans : Type 0
+  NextMeans = let r = nextRule needle haystack (H .walk) in StepMeans x h (H .walk .position) (r .walk .position) (r .answer)
+
+  -- the same backward, from the haystack's end down to `end`
+  abbrev pub BackwardList : Type 0
+  BackwardList = (ks : List ℕ) → Rightmost x h (x .size) (H .walk .end) ks → Rightmost x h (x .size) (h .size) (H .backward .matches ++ ks)
+
+  abbrev pub BackwardNone : Type 0
+  BackwardNone =
+      (nextMatchBackRule needle haystack (H .walk) .answer ≡ NextMatch.Nothing) ⊎ (nextBackRule needle haystack (H .walk) .answer ≡ Step.Done)
+      → Rightmost x h (x .size) (h .size) (H .backward .matches)
+
+  abbrev pub NextMatchBackMeans : Type 0
+  NextMatchBackMeans = AnswersGreatest (OccursUpTo x h (H .walk .end)) (x .size) (nextMatchBackRule needle haystack (H .walk) .answer)
+
+  abbrev pub NextBackMeans : Type 0
+  NextBackMeans = let r = nextBackRule needle haystack (H .walk) in StepBackMeans x h (H .walk .end) (r .walk .end) (r .answer)
+
+-- ---- whole searches: the first next match from preparing on
+
+-- "find gives the least position", "nothing exactly if there is none"
+abbrev pub FindMeans : List ℕ → List ℕ → Type 0
+FindMeans needle haystack =
+    AnswersLeast (Occurs (front needle) (front haystack)) (length needle) (nextMatchRule needle haystack (prepareRule needle (length haystack) .walk) .answer)
+
+-- "rfind the greatest"
+abbrev pub RfindMeans : List ℕ → List ℕ → Type 0
+RfindMeans needle haystack =
+    AnswersGreatest (Occurs (front needle) (front haystack)) (length needle) (nextMatchBackRule needle haystack (prepareRule needle (length haystack) .walk) .answer)
+
+-- all of it, after any calls from preparing on: "promised for states reached from preparation with the same bytes"
+pub record Demand2 (needle haystack : List ℕ) (calls : List Call) : Type 0 where
+  pub forward-list : ForwardList needle haystack (reached needle haystack calls)
+  pub forward-none : ForwardNone needle haystack (reached needle haystack calls)
+  pub next-match-means : NextMatchMeans needle haystack (reached needle haystack calls)
+  pub step-means : NextMeans needle haystack (reached needle haystack calls)
+  pub backward-list : BackwardList needle haystack (reached needle haystack calls)
+  pub backward-none : BackwardNone needle haystack (reached needle haystack calls)
+  pub next-match-back-means : NextMatchBackMeans needle haystack (reached needle haystack calls)
+  pub step-back-means : NextBackMeans needle haystack (reached needle haystack calls)
+  pub find-least : FindMeans needle haystack
+  pub rfind-greatest : RfindMeans needle haystack
