@@ -1,0 +1,3 @@
+pub mod Find
+pub mod Meaning
+pub mod Examples
