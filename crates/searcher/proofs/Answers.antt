@@ -1,20 +1,20 @@
 -- What each way through the small functions of the record shows: the checks in their order, and what fits.
 -- Assumes nothing.
-use Prim.Native.Nat.{ℕ, _+_, _-_, _^_, _<_, _≤_, max}
-use mathlib.Core.Path.{_≡_, refl, sym, _∙_, ap}
-use mathlib.Core.Bool.{Bool, true, false, cond, _&&_, _||_}
+use Prim.Native.Nat.{ℕ, _+_, _-_, _<_, _≤_, max}
+use mathlib.Core.Path.{_≡_, _∙_}
+use mathlib.Core.Bool.{Bool, true, false, _||_}
 use mathlib.Core.List.{List}
-use mathlib.Core.Option.{Option, none, some}
-use mathlib.Core.Logic.{_⊎_, ⊎-elim}
-use native.Mathlib.Omega.{arith}
-use lib.Dec.{ltb, leb, eqb}
+use mathlib.Core.Option.{none}
+use lib.Dec.{ltb, eqb}
 use lib.ListN.{length}
 use borrow.Author.Tests.{lt-ltb, le-ltb, le-leb, lt-leb, eq-eqb, ne-eqb}
 use Rattle.limits.specs.Bounds.{haystackBound, needleBound}
 use Rattle.limits.specs.declared.Refusal.the-variants.{HaystackTooLong, NeedleTooLong, EmptyNeedle, StateDoesNotFit}
 use Rattle.searcher.specs.declared.TwoWaySearcher.{TwoWaySearcher}
+use Rattle.searcher.specs.declared.Check.{Check}
 use Rattle.searcher.specs.Record.{fitsLong, fitsShort, fitsSplits, fits}
 use Rattle.searcher.specs.Walk.{refusal}
+use Rattle.searcher.specs.Code.{toCheck}
 
 module _ (m c b p : ℕ) where
   pub long-zero : c < 1 → false ≡ fitsLong m c b p
@@ -91,30 +91,38 @@ module _ (needle haystack : List ℕ) (s : TwoWaySearcher) where
       unfolding fits
       fits-end p h = rw (eq-eqb _ _ en, eq-eqb _ _ eh, le-leb _ _ p, lt-leb _ _ h)
 
-      pub fits-rest : s .position ≤ length haystack → s .end ≤ length haystack → fitsSplits (length needle) (s .«crit_pos») (s .«crit_pos_back») (s .period) (s .memory) ≡ fits needle haystack s
+      pub fits-rest : {r : Bool} → s .position ≤ length haystack → s .end ≤ length haystack
+          → r ≡ fitsSplits (length needle) (s .«crit_pos») (s .«crit_pos_back») (s .period) (s .memory) → r ≡ fits needle haystack s
       unfolding fits
-      fits-rest p h = rw (eq-eqb _ _ en, eq-eqb _ _ eh, le-leb _ _ p, le-leb _ _ h)
+      fits-rest p h e = e ∙ rw (eq-eqb _ _ en, eq-eqb _ _ eh, le-leb _ _ p, le-leb _ _ h)
 
   -- the checks, in their order
-  pub refused-1 : ltb haystackBound (length haystack) ≡ true → refusal needle haystack s ≡ some HaystackTooLong
-  unfolding refusal
-  refused-1 a = rw a
-
-  module _ (a : ltb haystackBound (length haystack) ≡ false) where
-    pub refused-2 : ltb needleBound (length needle) ≡ true → refusal needle haystack s ≡ some NeedleTooLong
+  module _ {far : Bool} (a : far ≡ ltb haystackBound (length haystack)) where
+    pub check-haystack : far ≡ true → Check.Refuse HaystackTooLong ≡ toCheck (refusal needle haystack s)
     unfolding refusal
-    refused-2 b = rw (a, b)
+    check-haystack h = rw (← a, h)
 
-    module _ (b : ltb needleBound (length needle) ≡ false) where
-      pub refused-3 : length needle ≡ 0 → refusal needle haystack s ≡ some EmptyNeedle
+    module _ {long : Bool} (near : far ≡ false) (b : long ≡ ltb needleBound (length needle)) where
+      pub check-needle : long ≡ true → Check.Refuse NeedleTooLong ≡ toCheck (refusal needle haystack s)
       unfolding refusal
-      refused-3 e = rw (a, b, eq-eqb _ _ e)
+      check-needle h = rw (← a, near, ← b, h)
 
-      module _ (e : length needle ≡ 0 → ⊥) where
-        pub refused-4 : fits needle haystack s ≡ false → refusal needle haystack s ≡ some StateDoesNotFit
+      module _ (short : long ≡ false) where
+        pub check-empty : length needle ≡ 0 → Check.Refuse EmptyNeedle ≡ toCheck (refusal needle haystack s)
         unfolding refusal
-        refused-4 f = rw (a, b, ne-eqb _ _ e, f)
+        check-empty e = rw (← a, near, ← b, short, eq-eqb _ _ e)
 
-        pub passes : fits needle haystack s ≡ true → refusal needle haystack s ≡ none
-        unfolding refusal
-        passes f = rw (a, b, ne-eqb _ _ e, f)
+        module _ {fitting : Bool} (nonempty : length needle ≡ 0 → ⊥) (f : fitting ≡ fits needle haystack s) where
+          pub check-state : fitting ≡ false → Check.Refuse StateDoesNotFit ≡ toCheck (refusal needle haystack s)
+          unfolding refusal
+          check-state h = rw (← a, near, ← b, short, ne-eqb _ _ nonempty, ← f, h)
+
+          pub check-passed : fitting ≡ true → Check.Pass ≡ toCheck (refusal needle haystack s)
+          unfolding refusal
+          check-passed h = rw (← a, near, ← b, short, ne-eqb _ _ nonempty, ← f, h)
+
+-- what passes every check is not refused
+pub passes : (needle haystack : List ℕ) (s : TwoWaySearcher) → ltb haystackBound (length haystack) ≡ false → ltb needleBound (length needle) ≡ false
+    → (length needle ≡ 0 → ⊥) → fits needle haystack s ≡ true → refusal needle haystack s ≡ none
+unfolding refusal
+passes needle haystack s a b e f = rw (a, b, ne-eqb _ _ e, f)

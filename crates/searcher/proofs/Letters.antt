@@ -1,16 +1,20 @@
 -- What the two comparing loops show as they go and where they end.
 -- Assumes nothing.
 use Prim.Native.Nat.{ℕ, _+_, _-_, _<_, _≤_, min}
-use mathlib.Core.Path.{_≡_, refl, sym, _∙_, ap}
-use mathlib.Core.Bool.{Bool, true, false, not}
+use mathlib.Core.Path.{_≡_, sym, _∙_, ap}
+use mathlib.Core.Bool.{Bool, true, false}
 use native.Mathlib.Omega.{arith}
 use native.Mathlib.Decide.{decLt}
-use lib.Dec.{eqb}
 use borrow.Author.Tests.{eq-eqb, ne-eqb}
 use Rattle.words.specs.Word.{Word}
-use Rattle.words.proofs.Tests.{first-at, first-none, least-at, least-none}
+use Rattle.words.specs.Choice.{firstFrom}
+use Rattle.words.proofs.Tests.{first-is, first-at, first-none, least-at, least-none}
 use Rattle.walks.specs.Window.{differs}
 use Rattle.searcher.specs.Compare.{firstUp, agreeDown}
+
+-- a search from `from` on ends at no earlier number
+pub from-on : (f : ℕ → Bool) (n from i : ℕ) → i ≡ firstFrom n from f → from ≤ i
+from-on f n from i e = let r = first-is f n from .low in omega arith
 
 module _ (x h : Word) (k : ℕ) where
   same : (i : ℕ) → x .letter i ≡ h .letter (k + i) → differs x h k i ≡ false

@@ -29,7 +29,7 @@ use Rattle.suffix.specs.declared.ReverseSuffix.{ReverseSuffix}
 use Rattle.suffix.specs.declared.SuffixAnswer.{SuffixAnswer}
 use Rattle.suffix.specs.declared.ReverseAnswer.{ReverseAnswer}
 use Rattle.suffix.proofs.Maximal.{plain-found, known-found}
-use Rattle.searcher.specs.declared.Memory.the-variants.{Long, Short}
+use Rattle.searcher.specs.declared.Memory.the-variants.{Short}
 use Rattle.searcher.specs.declared.TwoWaySearcher.{TwoWaySearcher}
 use Rattle.searcher.specs.declared.Prepared.{Prepared}
 use Rattle.searcher.specs.Compare.{firstUp}
@@ -135,25 +135,6 @@ module _ (needle : List ℕ) (p : ℕ) {lower higher : ReverseSuffix} (period : 
       → r ≡ ready (prepareShort needle n c p) (counted + reverseRounds needle p)
   unfolding prepareShort reverseRounds
   short-is n c counted e l f = e ∙ rw (l, f, sub-zero, a, b)
-
--- ---- step 4
-
-pub long-is : (needle : List ℕ) (n c : ℕ) {longer set : ℕ} → longer ≡ max c (length needle - c) → set ≡ fingerprint needle
-    → _≡_ {A = TwoWaySearcher}
-    (record {
-      «needle_len» = length needle;
-      «haystack_len» = n;
-      «crit_pos» = c;
-      «crit_pos_back» = c;
-      period = longer + 1;
-      byteset = set;
-      position = 0;
-      end = n;
-      memory = Long;
-    })
-    (prepareLong needle n c)
-unfolding prepareLong
-long-is needle n c e f = rw (e, f)
 
 -- ---- the steps together
 

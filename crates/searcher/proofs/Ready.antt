@@ -137,13 +137,7 @@ module _ (needle : List ℕ) (pos : 0 < length needle) where
   prepared-fits haystack =
       decides-fits needle haystack (steps needle (length haystack) .walk) .complete
       (by-kind needle (length haystack) (λ r. StateFits needle haystack (r .walk)) pos
-      (λ k. record {
-        needle-is = refl;
-        haystack-is = refl;
-        position-in = omega arith;
-        end-in = omega arith;
-        splits = record { positive = k .positive; inside = k .inside; back-is = refl; period-is = refl };
-      })
+      (λ k. omega arith)
       (λ k.
       let ahead = split-below (k .later) (k .smallest-is) in
       let back-ahead = split-below (k .back-later) (smallest-mirror (front needle) (k .smallest-is)) in

@@ -1,23 +1,17 @@
 -- What each way out of a window gives, as the code comes to it: `present` is what it learns of the fingerprint, and r what it returns.
 -- Assumes nothing.
 use Prim.Native.Nat.{ℕ, _+_, _-_, _<_, _≤_, max}
-use mathlib.Core.Path.{_≡_, refl, sym, _∙_, ap}
+use mathlib.Core.Path.{_≡_}
 use mathlib.Core.Bool.{Bool, true, false, not}
 use native.Mathlib.Omega.{arith}
 use borrow.Author.Tests.{lt-ltb, le-ltb, not-true, not-false}
 use Rattle.words.specs.Word.{Word}
-use Rattle.words.specs.Choice.{firstFrom}
-use Rattle.words.proofs.Tests.{first-is}
 use Rattle.walks.specs.Window.{turn, forwardWindow}
 use Rattle.searcher.specs.declared.Plan.{Plan}
 use Rattle.searcher.specs.declared.Cursor.{Cursor}
 use Rattle.searcher.specs.declared.Turn.{Turn}
 use Rattle.searcher.specs.Compare.{firstUp, agreeDown}
 use Rattle.searcher.specs.Code.{planOf, cursorOf, toTurn}
-
--- a search from `from` on ends at no earlier number
-pub from-on : (f : ℕ → Bool) (n from i : ℕ) → i ≡ firstFrom n from f → from ≤ i
-from-on f n from i e = let r = first-is f n from .low in omega arith
 
 module _ (v : Plan) (x h : Word) (s : Cursor) (r : Turn) (present : Bool) (test : present ≡ planOf v .has (h .letter (s .at + (x .size - 1)))) where
   pub forward-absent : not present ≡ true → r ≡ toTurn (turn false (s .at + x .size) 0 0) → r ≡ toTurn (forwardWindow (planOf v) x h (cursorOf s))

@@ -9,9 +9,8 @@ use mir.Syntax.{w64}
 use mir.Val.{Fits}
 use borrow.Author.Tests.{not-true, not-false, lt-ltb, le-ltb}
 use Rattle.words.specs.Word.{Word}
-use Rattle.words.proofs.Tests.{first-is}
 use Rattle.byteset.specs.Fingerprint.{has}
-use Rattle.walks.specs.Window.{differs, turn, backwardWindow}
+use Rattle.walks.specs.Window.{turn, backwardWindow}
 use Rattle.searcher.specs.declared.Plan.{Plan}
 use Rattle.searcher.specs.declared.Cursor.{Cursor}
 use Rattle.searcher.specs.declared.Turn.{Turn}
@@ -21,10 +20,6 @@ use Rattle.searcher.specs.Compare.{firstUp, agreeDown}
 -- What a window's needs ask of its numbers, each from the facts that it rests on: `omega` cannot see over the whole of a plan's shape.
 pub window-inside : (m n end : ℕ) → m ≤ end → end ≤ n → end - m + m ≤ n
 window-inside m n end room within = omega arith
-
--- a difference is found no earlier than it is looked for
-pub up-low : (x h : Word) (k from to j : ℕ) → j ≡ firstUp x h k from to → from ≤ j + 1
-up-low x h k from to j e = let f = first-is (differs x h k) (to - from) from in omega arith
 
 module _ (split memory : ℕ) where
   pub left-index : (upto i : ℕ) → upto ≡ min split memory → upto - i ≤ split

@@ -1,6 +1,7 @@
 // The two way searcher: preparing, and walks in both directions.
 mod compare;
 mod kinds;
+mod number;
 mod prepare;
 mod search;
 mod window;
@@ -143,7 +144,7 @@ fn fits_long(m: usize, c: usize, b: usize, p: usize) -> bool
     if b != c {
         return false;
     }
-    let longer = if c < m - c { m - c } else { c };
+    let longer = number::larger(c, m - c);
     p == longer + 1
 }
 

@@ -5,13 +5,14 @@ use crate::Preparation;
 use crate::Prepared;
 use crate::TwoWaySearcher;
 use crate::compare;
+use crate::number;
 use suffix::ReverseAnswer;
 use suffix::ReverseSuffix;
 use suffix::Suffix;
 use suffix::SuffixAnswer;
 ghost use mathlib.Core.Path.{_≡_};
 ghost use mathlib.Core.Option.{none, some};
-ghost use Prim.Native.Nat.{_+_, _*_, _<_, _≤_, max};
+ghost use Prim.Native.Nat.{_+_, _*_, _<_, _≤_};
 ghost use lib.ListN.{length};
 ghost use Rattle.words.specs.Word.{front, back};
 ghost use Rattle.words.specs.Period.{Period};
@@ -82,12 +83,6 @@ fn agreeing(left: &[u8], right: &[u8]) -> usize
     compare::first_up(right, left, 0, 0, left.len())
 }
 
-fn greater(a: usize, b: usize) -> usize
-    ensures { λ r. ⌜ r ≡ max a b ⌝ }
-{
-    if a < b { b } else { a }
-}
-
 fn prepared(walk: TwoWaySearcher, preparing: usize) -> Prepared
     ensures { λ r. ⌜ r ≡ ready walk preparing ⌝ }
 {
@@ -110,7 +105,7 @@ fn short(needle: &[u8], n: usize, c: usize, p: usize, counted: usize) -> Prepare
     let m = needle.len();
     let lower = reverse_maximal(needle, p, false);
     let higher = reverse_maximal(needle, p, true);
-    let later = greater(lower.start, higher.start);
+    let later = number::larger(lower.start, higher.start);
     let walk = TwoWaySearcher {
         needle_len: m,
         haystack_len: n,
@@ -139,7 +134,7 @@ fn long(needle: &[u8], n: usize, c: usize) -> TwoWaySearcher
         haystack_len: n,
         crit_pos: c,
         crit_pos_back: c,
-        period: greater(c, m - c) + 1,
+        period: number::larger(c, m - c) + 1,
         byteset: byteset::byteset_create(needle),
         position: 0,
         end: n,

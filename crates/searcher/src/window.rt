@@ -1,6 +1,5 @@
 // One window of a walk, on numbers: what a walk goes by, where it stands, and what a window does.
 ghost use mathlib.Core.Path.{_≡_};
-ghost use Prim.Native.Nat.{min, max};
 ghost use lib.ListN.{length};
 ghost use Rattle.words.specs.Word.{front};
 ghost use Rattle.walks.specs.Window.{turn, forwardWindow, backwardWindow};
@@ -9,19 +8,7 @@ use crate::Cursor;
 use crate::Plan;
 use crate::Turn;
 use crate::compare;
-
-// The larger and the smaller of two numbers.
-fn larger(a: usize, b: usize) -> usize
-    ensures { λ r. ⌜ r ≡ max a b ⌝ }
-{
-    if a < b { b } else { a }
-}
-
-fn smaller(a: usize, b: usize) -> usize
-    ensures { λ r. ⌜ r ≡ min a b ⌝ }
-{
-    if a < b { a } else { b }
-}
+use crate::number;
 
 fn turn_to(matched: bool, at: usize, memory: usize, comparisons: usize) -> Turn
     ensures { λ r. ⌜ r ≡ toTurn (turn matched at memory comparisons) ⌝ }
@@ -43,7 +30,7 @@ pub(crate) fn forward_window(haystack: &[u8], needle: &[u8], v: Plan, s: Cursor)
     if !byteset::byteset_contains(v.byteset, haystack[last]) {
         return turn_to(false, s.at + m, 0, 0);
     }
-    let from = larger(v.split, s.memory);
+    let from = number::larger(v.split, s.memory);
     let i = compare::first_up(haystack, needle, s.at, from, m);
     if i < m {
         return turn_to(false, s.at + (i - v.split + 1), 0, i + 1 - from);
@@ -65,7 +52,7 @@ pub(crate) fn backward_window(haystack: &[u8], needle: &[u8], v: Plan, s: Cursor
     if !byteset::byteset_contains(v.byteset, haystack[first]) {
         return turn_to(false, first, m, 0);
     }
-    let upto = smaller(v.split, s.memory);
+    let upto = number::smaller(v.split, s.memory);
     let agreed = compare::agree_down(haystack, needle, first, upto, 0);
     if agreed < upto {
         return turn_to(
@@ -75,7 +62,7 @@ pub(crate) fn backward_window(haystack: &[u8], needle: &[u8], v: Plan, s: Cursor
             agreed + 1,
         );
     }
-    let high = larger(v.split, s.memory);
+    let high = number::larger(v.split, s.memory);
     let j = compare::first_up(haystack, needle, first, v.split, high);
     if j < high {
         return turn_to(false, s.at - v.period, v.keep, upto + (j + 1 - v.split));

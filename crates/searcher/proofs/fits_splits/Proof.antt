@@ -1,7 +1,5 @@
 -- `searcher::fits_splits` meets its contract.
 -- Assumes nothing.
-use mathlib.Core.Path.{_≡_, sym, _∙_, ap, subst}
-use Rattle.searcher.specs.Record.{fitsSplits}
 use borrow.Author.Needs.{needs}
 use Rattle.searcher.proofs.fits_splits.Statement.{statement}
 use Rattle.searcher.proofs.fits_splits.Tie as tie
@@ -19,10 +17,10 @@ fits-short-requires : tie.Need-fits-short-requires
 fits-short-requires c κs = search needs
 
 returns : tie.Need-returns
-returns c = let a = c .before .before .before .args in c .fits-long .ensures ∙ sym (ap (fitsSplits (a .m) (a .c) (a .b) (a .p)) (c .before .enum-told .given .1))
+returns c = rw (c .before .enum-told .given .1) (c .fits-long .ensures)
 
 returns-2 : tie.Need-returns-2
-returns-2 c = let a = c .before .before .before .before .args in c .fits-short .ensures ∙ sym (ap (fitsSplits (a .m) (a .c) (a .b) (a .p)) (c .before .before .memory .given .1))
+returns-2 c = rw (c .before .before .memory .given .1) (c .fits-short .ensures)
 
 pub fits-splits-spec : {M : Type 1} → statement M
 fits-splits-spec =

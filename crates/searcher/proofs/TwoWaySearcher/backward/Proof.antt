@@ -1,8 +1,8 @@
 -- `searcher::TwoWaySearcher::backward` meets its contract.
 -- Assumes nothing.
-use mathlib.Core.Path.{_≡_, refl, sym, _∙_, ap, subst}
-use Rattle.searcher.proofs.Calls.{backward-start, backward-walked}
+use Rattle.searcher.proofs.Calls.{backward-start}
 use borrow.Author.Needs.{needs}
+use Rattle.searcher.specs.Walk.{backward}
 use Rattle.searcher.proofs.TwoWaySearcher.backward.Statement.{statement}
 use Rattle.searcher.proofs.TwoWaySearcher.backward.Tie as tie
 
@@ -13,13 +13,14 @@ backward-memory-requires : tie.Need-backward-memory-requires
 backward-memory-requires c κs = search needs
 
 backward-search-requires : tie.Need-backward-search-requires
-backward-search-requires c κs = backward-start _ _ (c .before .before .before .before .args .self) _ _ (c .before .backward-keep .ensures) (c .backward-memory .ensures) (c .before .before .before .before .pre)
+backward-search-requires c κs = search (needs, backward-start)
 
 set-backward-requires : tie.Need-set-backward-requires
 set-backward-requires c κs = search needs
 
 returns : tie.Need-returns
-returns c = backward-walked _ _ (c .before .before .before .before .before .before .args .self) _ _ (c .before .before .before .backward-keep .ensures) (c .before .before .backward-memory .ensures) _ _ _ (c .before .backward-search .ensures) (c .set-backward .ensures)
+unfolding backward
+returns c = let searched = c .before in rw (c .set-backward .ensures, searched .backward-search .ensures, searched .before .before .backward-keep .ensures, searched .before .backward-memory .ensures)
 
 pub backward-spec : {M : Type 1} → statement M
 backward-spec =

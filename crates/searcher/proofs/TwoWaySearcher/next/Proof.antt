@@ -1,7 +1,6 @@
 -- `searcher::TwoWaySearcher::next` meets its contract.
 -- Assumes nothing.
-use mathlib.Core.Path.{_≡_, refl, sym, _∙_, ap, subst}
-use Rattle.searcher.proofs.Calls.{passed, forward-stop, refused, next-refused, next-done, next-stepped}
+use Rattle.searcher.proofs.Calls.{passed, forward-stop, next-refused, next-done, next-stepped}
 use borrow.Author.Needs.{needs}
 use Rattle.searcher.proofs.TwoWaySearcher.next.Statement.{statement}
 use Rattle.searcher.proofs.TwoWaySearcher.next.Tie as tie
@@ -16,7 +15,7 @@ refuse-step-requires : tie.Need-refuse-step-requires
 refuse-step-requires c κs = search needs
 
 returns : tie.Need-returns
-returns c = c .refuse-step .ensures ∙ next-refused _ _ _ _ (refused _ _ (sym (c .before .before .before .before .check .ensures) ∙ c .before .before .check2 .given .1))
+returns c = search (needs, next-refused)
 
 enum-told : tie.Need-enum-told
 enum-told c = search needs
@@ -25,16 +24,16 @@ done-requires : tie.Need-done-requires
 done-requires c κs = search needs
 
 returns-2 : tie.Need-returns-2
-returns-2 c = c .done .ensures ∙ next-done _ _ _ (passed _ (sym (c .before .before .before .before .before .check .ensures) ∙ c .before .before .before .enum-told .given .1)) (c .before .if1 .taken)
+returns-2 c = search (needs, next-done)
 
 forward-requires : tie.Need-forward-requires
-forward-requires c κs = passed _ (sym (c .before .before .before .before .check .ensures) ∙ c .before .before .enum-told .given .1)
+forward-requires c κs = search (needs, passed)
 
 step-answer-requires : tie.Need-step-answer-requires
-step-answer-requires c κs = forward-stop _ _ _ (passed _ (sym (c .before .before .before .before .before .before .before .check .ensures) ∙ c .before .before .before .before .before .enum-told .given .1)) _ _ (c .before .before .forward .ensures)
+step-answer-requires c κs = search (needs, forward-stop)
 
 returns-3 : tie.Need-returns-3
-returns-3 c = next-stepped _ _ _ (passed _ (sym (c .before .before .before .before .before .before .before .before .check .ensures) ∙ c .before .before .before .before .before .before .enum-told .given .1)) (c .before .before .before .before .if1 .left) _ _ (c .before .before .before .forward .ensures) (c .step-answer .ensures)
+returns-3 c = search (needs, next-stepped)
 
 pub next-spec : {M : Type 1} → statement M
 next-spec =

@@ -1,7 +1,6 @@
 -- `searcher::TwoWaySearcher::next_back` meets its contract.
 -- Assumes nothing.
-use mathlib.Core.Path.{_≡_, refl, sym, _∙_, ap, subst}
-use Rattle.searcher.proofs.Calls.{passed, backward-stop, refused, next-back-refused, next-back-done, next-back-stepped}
+use Rattle.searcher.proofs.Calls.{passed, backward-stop, next-back-refused, next-back-done, next-back-stepped}
 use borrow.Author.Needs.{needs}
 use Rattle.searcher.proofs.TwoWaySearcher.next_back.Statement.{statement}
 use Rattle.searcher.proofs.TwoWaySearcher.next_back.Tie as tie
@@ -16,7 +15,7 @@ refuse-step-requires : tie.Need-refuse-step-requires
 refuse-step-requires c κs = search needs
 
 returns : tie.Need-returns
-returns c = c .refuse-step .ensures ∙ next-back-refused _ _ _ _ (refused _ _ (sym (c .before .before .before .before .check .ensures) ∙ c .before .before .check2 .given .1))
+returns c = search (needs, next-back-refused)
 
 enum-told : tie.Need-enum-told
 enum-told c = search needs
@@ -25,16 +24,16 @@ done-requires : tie.Need-done-requires
 done-requires c κs = search needs
 
 returns-2 : tie.Need-returns-2
-returns-2 c = c .done .ensures ∙ next-back-done _ _ _ (passed _ (sym (c .before .before .before .before .before .check .ensures) ∙ c .before .before .before .enum-told .given .1)) (c .before .if1 .taken)
+returns-2 c = search (needs, next-back-done)
 
 backward-requires : tie.Need-backward-requires
-backward-requires c κs = passed _ (sym (c .before .before .before .before .check .ensures) ∙ c .before .before .enum-told .given .1)
+backward-requires c κs = search (needs, passed)
 
 step-answer-requires : tie.Need-step-answer-requires
-step-answer-requires c κs = backward-stop _ _ _ (passed _ (sym (c .before .before .before .before .before .before .before .check .ensures) ∙ c .before .before .before .before .before .enum-told .given .1)) _ _ (c .before .before .backward .ensures)
+step-answer-requires c κs = search (needs, backward-stop)
 
 returns-3 : tie.Need-returns-3
-returns-3 c = next-back-stepped _ _ _ (passed _ (sym (c .before .before .before .before .before .before .before .before .check .ensures) ∙ c .before .before .before .before .before .before .enum-told .given .1)) (c .before .before .before .before .if1 .left) _ _ (c .before .before .before .backward .ensures) (c .step-answer .ensures)
+returns-3 c = search (needs, next-back-stepped)
 
 pub next-back-spec : {M : Type 1} → statement M
 next-back-spec =

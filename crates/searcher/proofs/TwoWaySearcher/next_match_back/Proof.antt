@@ -1,7 +1,6 @@
 -- `searcher::TwoWaySearcher::next_match_back` meets its contract.
 -- Assumes nothing.
-use mathlib.Core.Path.{_≡_, refl, sym, _∙_, ap, subst}
-use Rattle.searcher.proofs.Calls.{passed, backward-stop, refused, next-match-back-refused, next-back-matched}
+use Rattle.searcher.proofs.Calls.{passed, backward-stop, next-match-back-refused, next-back-matched}
 use borrow.Author.Needs.{needs}
 use Rattle.searcher.proofs.TwoWaySearcher.next_match_back.Statement.{statement}
 use Rattle.searcher.proofs.TwoWaySearcher.next_match_back.Tie as tie
@@ -16,19 +15,19 @@ refuse-match-requires : tie.Need-refuse-match-requires
 refuse-match-requires c κs = search needs
 
 returns : tie.Need-returns
-returns c = c .refuse-match .ensures ∙ next-match-back-refused _ _ _ _ (refused _ _ (sym (c .before .before .before .before .check .ensures) ∙ c .before .before .check2 .given .1))
+returns c = search (needs, next-match-back-refused)
 
 enum-told : tie.Need-enum-told
 enum-told c = search needs
 
 backward-requires : tie.Need-backward-requires
-backward-requires c κs = passed _ (sym (c .before .before .check .ensures) ∙ c .enum-told .given .1)
+backward-requires c κs = search (needs, passed)
 
 match-answer-requires : tie.Need-match-answer-requires
-match-answer-requires c κs = backward-stop _ _ _ (passed _ (sym (c .before .before .before .before .before .check .ensures) ∙ c .before .before .before .enum-told .given .1)) _ _ (c .before .before .backward .ensures)
+match-answer-requires c κs = search (needs, backward-stop)
 
 returns-2 : tie.Need-returns-2
-returns-2 c = next-back-matched _ _ _ (passed _ (sym (c .before .before .before .before .before .before .check .ensures) ∙ c .before .before .before .before .enum-told .given .1)) _ _ (c .before .before .before .backward .ensures) (c .match-answer .ensures)
+returns-2 c = search (needs, next-back-matched)
 
 pub next-match-back-spec : {M : Type 1} → statement M
 next-match-back-spec =

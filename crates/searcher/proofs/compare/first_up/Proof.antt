@@ -1,6 +1,6 @@
 -- `searcher::compare::first_up` meets its contract: the letters passed agree.
 -- Assumes nothing.
-use Prim.Native.Nat.{_≤_, _-_, min}
+use Prim.Native.Nat.{_≤_, _-_}
 use native.Mathlib.Omega.{arith}
 use Rattle.words.specs.Word.{front}
 use Rattle.searcher.proofs.Letters.{Agrees, agrees-up, up-hit, up-none}

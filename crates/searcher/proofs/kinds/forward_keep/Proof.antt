@@ -1,9 +1,6 @@
 -- `searcher::kinds::forward_keep` meets its contract.
 -- Assumes nothing.
-use Prim.Native.Nat.{_-_}
-use mathlib.Core.Path.{_≡_, sym, _∙_, ap, subst}
 use native.Mathlib.Omega.{arith}
-use Rattle.searcher.specs.Walk.{forwardKeep}
 use borrow.Author.Needs.{needs}
 use Rattle.searcher.proofs.kinds.forward_keep.Statement.{statement}
 use Rattle.searcher.proofs.kinds.forward_keep.Tie as tie
@@ -18,13 +15,10 @@ returns : tie.Need-returns
 returns c = search needs
 
 returns-2 : tie.Need-returns-2
-returns-2 c = let a = c .before .before .before .args in sym (ap (forwardKeep (a .m) (a .period)) (c .before .enum-told2 .given .1))
+returns-2 c = rw (c .before .enum-told2 .given .1)
 
 returns-3 : tie.Need-returns-3
-returns-3 c =
-    let a = c .before .before .before .args in
-    let none : 0 ≡ a .m - a .period = omega arith in
-    none ∙ sym (ap (forwardKeep (a .m) (a .period)) (c .before .enum-told2 .given .1))
+returns-3 c = rw (c .before .enum-told2 .given .1) (omega arith)
 
 pub forward-keep-spec : {M : Type 1} → statement M
 forward-keep-spec = tie.close (tie.spec enum-told enum-told-2 returns returns-2 returns-3)

@@ -1,7 +1,5 @@
 -- `searcher::kinds::set_backward` meets its contract.
 -- Assumes nothing.
-use mathlib.Core.Path.{_≡_, sym, _∙_, ap}
-use Rattle.searcher.specs.Walk.{setBackward}
 use borrow.Author.Needs.{needs}
 use Rattle.searcher.proofs.kinds.set_backward.Statement.{statement}
 use Rattle.searcher.proofs.kinds.set_backward.Tie as tie
@@ -16,7 +14,7 @@ returns : tie.Need-returns
 returns c = search needs
 
 returns-2 : tie.Need-returns-2
-returns-2 c = sym (ap (setBackward (c .before .before .before .args .k)) (c .before .memory .given .1))
+returns-2 c = rw (c .before .memory .given .1)
 
 pub set-backward-spec : {M : Type 1} → statement M
 set-backward-spec = tie.close (tie.spec enum-told enum-known-memory returns returns-2)

@@ -1,15 +1,15 @@
 -- `searcher::prepare::long` meets its contract.
 -- Assumes nothing.
 use borrow.Author.Needs.{needs}
-use Rattle.searcher.proofs.Preparing.{long-is}
+use Rattle.searcher.specs.Prepare.{prepareLong}
 use Rattle.searcher.proofs.prepare.long.Statement.{statement}
 use Rattle.searcher.proofs.prepare.long.Tie as tie
 
-sub-greater : tie.Need-sub-greater
-sub-greater c = search needs
+sub-larger : tie.Need-sub-larger
+sub-larger c = search needs
 
-greater-requires : tie.Need-greater-requires
-greater-requires c κs = search needs
+larger-requires : tie.Need-larger-requires
+larger-requires c κs = search needs
 
 add-t7 : tie.Need-add-t7
 add-t7 c = search needs
@@ -18,8 +18,9 @@ byteset-create-requires : tie.Need-byteset-create-requires
 byteset-create-requires c κs = search needs
 
 returns : tie.Need-returns
-returns c = search (needs, long-is)
+unfolding prepareLong
+returns c = cc
 
 pub long-spec : {M : Type 1} → statement M
 long-spec =
-    tie.close (tie.spec sub-greater greater-requires add-t7 byteset-create-requires returns)
+    tie.close (tie.spec sub-larger larger-requires add-t7 byteset-create-requires returns)

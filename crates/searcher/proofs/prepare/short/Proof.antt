@@ -11,8 +11,8 @@ reverse-maximal-requires c κs = search needs
 reverse-maximal-requires-2 : tie.Need-reverse-maximal-requires-2
 reverse-maximal-requires-2 c κs = search needs
 
-greater-requires : tie.Need-greater-requires
-greater-requires c κs = search needs
+larger-requires : tie.Need-larger-requires
+larger-requires c κs = search needs
 
 sub-prepared : tie.Need-sub-prepared
 sub-prepared c = search (needs, later-in)
@@ -47,7 +47,7 @@ short-spec =
     (tie.spec
     reverse-maximal-requires
     reverse-maximal-requires-2
-    greater-requires
+    larger-requires
     sub-prepared
     sub-byteset-create
     part-byteset-create-start

@@ -1,70 +1,102 @@
--- `searcher::search::backward_search` meets its contract. The loop keeps what LoopBack.antt says, and each test takes one of the length's and one more.
+-- `searcher::search::backward_search` meets its contract. The loop keeps what Loops.antt says of a search, as the mirror sees it.
 -- Assumes nothing.
 use Prim.Native.Nat.{_+_, _-_}
 use mathlib.Core.Path.{_≡_}
 use mathlib.Core.Bool.{false, not, _&&_}
 use mathlib.Core.Logic.{⊎-elim}
+use native.Mathlib.Omega.{arith}
 use borrow.Author.Needs.{needs}
 use lib.Dec.{eqb}
 use lib.ListN.{length}
-use Rattle.searcher.proofs.LoopBack.{LoopingBack, back-first, back-tests, back-falls, back-out, back-room, back-asks, back-passed, back-comparisons, back-hit, back-next}
+use Rattle.words.specs.Word.{front}
+use Rattle.walks.specs.Search.{backwardSearch}
+use Rattle.walks.specs.Mirror.{turnedPlan, turned-cursor}
+use Rattle.searcher.specs.Code.{planOf, backwardFrom}
+use Rattle.searcher.proofs.Loops.{Looping, after, loop-first, loop-falls, loop-out, loop-passed, loop-hit, loop-next, few-comparisons}
+use Rattle.searcher.proofs.LoopBack.{KeptBack, backward-goes, backward-kept, room-left, no-room}
 use Rattle.searcher.proofs.search.backward_search.Statement.{statement}
 use Rattle.searcher.proofs.search.backward_search.Tie as tie
 
 abbrev Inv-loop : tie.InvT-loop
-Inv-loop haystack needle v start early n m s₀ comparisons₀ tests₀ s comparisons tests = LoopingBack early needle haystack v start s comparisons tests
+Inv-loop haystack needle v start early n m s₀ comparisons₀ tests₀ s comparisons tests =
+    Looping
+    (λ fuel. backwardSearch fuel early (planOf v) (front needle) (front haystack) (start .at))
+    (backwardFrom early needle haystack v start)
+    (turnedPlan (length needle) (planOf v))
+    (length needle)
+    (length haystack)
+    (length haystack - start .at)
+    (turned-cursor (length needle) (length haystack))
+    s
+    comparisons
+    tests
 
 abbrev μ-loop : tie.MeasureT-loop
 μ-loop haystack needle v start early n m s₀ comparisons₀ tests₀ s comparisons tests = length haystack + 1 - tests
 
 loop-holds : tie.Need-loop-holds Inv-loop μ-loop
-loop-holds c = search (needs, back-first)
+loop-holds c = loop-first _ _ _ _ _ _ (omega arith) (omega arith) (omega arith) (omega arith)
 
 wrapping-sub-usize-requires : tie.Need-wrapping-sub-usize-requires Inv-loop μ-loop
 wrapping-sub-usize-requires c κs = search needs
-
--- where the window opens, the search has not passed a part that a step asks for
-stays : (c : tie.Joined2 Inv-loop μ-loop) →
-    let loop = c .before .before .before .loop in
-    let a = c .before .before .before .before .before .before .args in
-    (a .early && not (eqb (loop .s .at) (a .start .at))) ≡ false
-stays c = ⊎-elim (λ w. rw (w .0 .taken, w .3 .left)) (λ w. rw (w .left)) (c .if2 .came)
 
 ended-requires : tie.Need-ended-requires Inv-loop μ-loop
 ended-requires c κs = search needs
 
 returns : tie.Need-returns Inv-loop μ-loop
-returns c = search (needs, back-passed)
+returns c =
+    let tested = c .before .before .before .before in
+    loop-passed (tested .before .before .before .loop .inv) (backward-goes _ _ _ _ _ _) (search (needs, room-left)) (rw (tested .if2 .taken, c .before .if3 .taken)) (c .ended .ensures)
+
+-- no part was passed
+stays : (c : tie.Joined2 Inv-loop μ-loop) → let a = c .before .before .before .before .before .before .args in
+    (a .early && not (eqb (c .before .before .before .loop .s .at) (a .start .at))) ≡ false
+stays c = ⊎-elim (λ w. rw (w .0 .taken, w .3 .left)) (λ w. rw (w .left)) (c .if2 .came)
 
 sub-first : tie.Need-sub-first Inv-loop μ-loop
-sub-first c = search (needs, back-room)
+sub-first c = omega arith
 
 backward-window-requires : tie.Need-backward-window-requires Inv-loop μ-loop
-backward-window-requires c κs = search (needs, back-asks)
+backward-window-requires c κs = search needs
+
+-- the window's move pays for its comparisons
+kept : (c : tie.After-backward-window Inv-loop μ-loop) → let a = c .before .before .before .before .before .before .before .before .args in
+    let loop = c .before .before .before .before .before .loop in let w = c .backward-window .result in
+    KeptBack (planOf (a .v)) (length (a .needle .now)) (length (a .haystack .now)) (length (a .haystack .now) - a .start .at) (after w) (loop .comparisons + w .comparisons) (loop .tests + 1)
+kept c =
+    let loop = c .before .before .before .before .before in
+    let start = loop .before .before .before in
+    backward-kept _ _ (start .pre .back) (start .pre .shape) (omega arith) (loop .loop .inv .kept) (c .backward-window .ensures)
 
 add-comparisons : tie.Need-add-comparisons Inv-loop μ-loop
-add-comparisons c = search (needs, back-comparisons)
+add-comparisons c = record { fits = few-comparisons (kept (c .before)) (omega arith) (omega arith) }
 
 add-tests : tie.Need-add-tests Inv-loop μ-loop
-add-tests c = search (needs, back-tests)
+add-tests c = omega arith
 
 ended-requires-2 : tie.Need-ended-requires-2 Inv-loop μ-loop
 ended-requires-2 c κs = search needs
 
 returns-2 : tie.Need-returns-2 Inv-loop μ-loop
-returns-2 c = search (needs, back-hit, stays (c .before .before .before .before .before))
+returns-2 c =
+    let made = c .before .before .before in
+    let joined = made .before .before in
+    loop-hit (joined .before .before .before .loop .inv) (backward-goes _ _ _ _ _ _) (made .backward-window .ensures) (search (needs, room-left)) (stays joined) (c .before .if4 .taken) (c .ended2 .ensures)
 
 loop-less : tie.Need-loop-less Inv-loop μ-loop
-loop-less c = search (needs, back-falls)
+loop-less c = search (needs, loop-falls)
 
 loop-again : tie.Need-loop-again Inv-loop μ-loop
-loop-again c = search (needs, back-next, stays (c .before .before .before .before))
+loop-again c =
+    let made = c .before .before in
+    let joined = made .before .before in
+    loop-next (joined .before .before .before .loop .inv) (backward-goes _ _ _ _ _ _) (made .backward-window .ensures) (search (needs, room-left)) (stays joined) (c .if4 .left) (kept made)
 
 ended-requires-3 : tie.Need-ended-requires-3 Inv-loop μ-loop
 ended-requires-3 c κs = search needs
 
 returns-3 : tie.Need-returns-3 Inv-loop μ-loop
-returns-3 c = search (needs, back-out)
+returns-3 c = loop-out (c .before .before .before .loop .inv) (backward-goes _ _ _ _ _ _) (search (needs, no-room)) (c .ended3 .ensures)
 
 pub backward-search-spec : {M : Type 1} → statement M
 backward-search-spec =

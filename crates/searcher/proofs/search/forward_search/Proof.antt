@@ -56,12 +56,7 @@ stays : (c : tie.Joined2 Inv-loop μ-loop) → let a = c .before .before .before
 stays c = ⊎-elim (λ w. rw (w .0 .taken, w .3 .left)) (λ w. rw (w .left)) (c .if2 .came)
 
 forward-window-requires : tie.Need-forward-window-requires Inv-loop μ-loop
-forward-window-requires c κs =
-    let start = c .before .before .before .before .before .before in
-    record {
-      start = record { shape = start .pre .shape; within = omega arith; memory = omega arith; small = omega arith };
-      room = omega arith;
-    }
+forward-window-requires c κs = search needs
 
 -- the window's move pays for its comparisons
 kept : (c : tie.After-forward-window Inv-loop μ-loop) → let a = c .before .before .before .before .before .before .before .args in
@@ -72,9 +67,7 @@ kept c =
     forward-kept _ _ (loop .before .before .before .pre .shape) (omega arith) (loop .loop .inv .kept) (c .forward-window .ensures)
 
 add-comparisons : tie.Need-add-comparisons Inv-loop μ-loop
-add-comparisons c =
-    let start = c .before .before .before .before .before .before .before .before in
-    record { fits = few-comparisons (kept (c .before)) (omega arith) (start .pre .small) }
+add-comparisons c = record { fits = few-comparisons (kept (c .before)) (omega arith) (omega arith) }
 
 add-tests : tie.Need-add-tests Inv-loop μ-loop
 add-tests c = omega arith
@@ -89,7 +82,7 @@ returns-2 c =
     loop-hit (room .before .before .loop .inv) (forward-goes _ _ _ _ _ _) (made .forward-window .ensures) (lt-ltb _ _ (room .if1 .taken)) (stays (made .before)) (c .before .if4 .taken) (c .ended2 .ensures)
 
 loop-less : tie.Need-loop-less Inv-loop μ-loop
-loop-less c = loop-falls (c .before .before .before .before .before .before .loop .inv)
+loop-less c = search (needs, loop-falls)
 
 loop-again : tie.Need-loop-again Inv-loop μ-loop
 loop-again c =

@@ -1,7 +1,9 @@
 -- `searcher::window::backward_window` meets its contract: each way out is a law of TurnsBack.antt.
 -- Assumes nothing.
+use native.Mathlib.Omega.{arith}
 use borrow.Author.Needs.{needs}
-use Rattle.searcher.proofs.TurnsBack.{window-inside, up-low, left-index, left-move, right-low, right-high, right-fits, whole-fits, back-absent, back-left, back-right, back-whole}
+use Rattle.searcher.proofs.Letters.{from-on}
+use Rattle.searcher.proofs.TurnsBack.{window-inside, left-index, left-move, right-low, right-high, right-fits, whole-fits, back-absent, back-left, back-right, back-whole}
 use Rattle.searcher.proofs.window.backward_window.Statement.{statement}
 use Rattle.searcher.proofs.window.backward_window.Tie as tie
 
@@ -60,7 +62,7 @@ add-turn-to-3 : tie.Need-add-turn-to-3
 add-turn-to-3 c = search needs
 
 sub-turn-to-5 : tie.Need-sub-turn-to-5
-sub-turn-to-5 c = search (needs, up-low)
+sub-turn-to-5 c = omega (arith, from-on _ _ _ _ (c .before .before .before .before .first-up .ensures))
 
 add-turn-to-4 : tie.Need-add-turn-to-4
 add-turn-to-4 c = search (needs, right-fits)

@@ -2,7 +2,8 @@
 -- Assumes nothing.
 use native.Mathlib.Omega.{arith}
 use borrow.Author.Needs.{needs}
-use Rattle.searcher.proofs.Turns.{from-on, forward-absent, forward-right, forward-left, forward-whole}
+use Rattle.searcher.proofs.Letters.{from-on}
+use Rattle.searcher.proofs.Turns.{forward-absent, forward-right, forward-left, forward-whole}
 use Rattle.searcher.proofs.window.forward_window.Statement.{statement}
 use Rattle.searcher.proofs.window.forward_window.Tie as tie
 
