@@ -1,0 +1,34 @@
+-- `lines::print::put_set` meets its contract: a set has at most 16 digits. Assumes nothing.
+use borrow.Author.Needs.{needs}
+use Rattle.lines.proofs.Digits.{hex-room}
+use Rattle.lines.proofs.print.put_set.Statement.{statement}
+use Rattle.lines.proofs.print.put_set.Tie as tie
+
+hex-requires : tie.Need-hex-requires
+hex-requires c κs = search needs
+
+array-share-prefix-digits : tie.Need-array-share-prefix-digits
+array-share-prefix-digits c = search needs
+
+slice-aggregate-put : tie.Need-slice-aggregate-put
+slice-aggregate-put c = search needs
+
+put-requires : tie.Need-put-requires
+put-requires c κs = search needs
+
+same-length : tie.Need-same-length
+same-length c = search needs
+
+returns : tie.Need-returns
+returns c = search (needs, hex-room)
+
+pub put-set-spec : {M : Type 1} → statement M
+put-set-spec =
+    tie.close
+    (tie.spec
+    hex-requires
+    array-share-prefix-digits
+    slice-aggregate-put
+    put-requires
+    same-length
+    returns)

@@ -1,0 +1,259 @@
+// Reading a line. A reader takes what it can and stops. What stands behind it, a space, a colon or the end, is the next one's to ask:
+// there a field is refused that is too long, or that breaks off.
+ghost use Prim.Native.Nat.{_≤_};
+ghost use lib.ListN.{length};
+
+// Where reading stands: at a byte of the line, or nowhere, once something was not of its form. Then it stays so.
+pub enum Cursor {
+    At(usize),
+    Lost,
+}
+
+// What a reader read, and where the next one starts. Where that is nowhere, nothing was read.
+pub struct Number {
+    pub value: usize,
+    pub next: Cursor,
+}
+
+pub struct Order {
+    pub greater: bool,
+    pub next: Cursor,
+}
+
+pub struct Set {
+    pub value: u64,
+    pub next: Cursor,
+}
+
+pub struct Word {
+    pub len: usize,
+    pub next: Cursor,
+}
+
+struct Byte {
+    value: u8,
+    next: usize,
+}
+
+const NUMBER_DIGITS: usize = 20;
+
+const SET_DIGITS: usize = 16;
+
+// The value of a hex digit, or 16 for a byte that is none.
+fn digit(b: u8) -> u8
+    ensures { λ r. ⌜ r ≤ 16 ⌝ }
+{
+    match b {
+        b'0'..=b'9' => b - b'0',
+        b'a'..=b'f' => b - b'a' + 10,
+        _ => 16,
+    }
+}
+
+// Whether a script may have the byte `b`.
+fn is_letter(b: u8) -> bool {
+    match b {
+        b'f' | b'b' | b'F' | b'B' => true,
+        _ => false,
+    }
+}
+
+// Whether the whole line is read.
+pub fn is_end(s: &[u8], c: Cursor) -> bool {
+    match c {
+        Cursor::At(at) => at == s.len(),
+        Cursor::Lost => false,
+    }
+}
+
+// The place of the first `b`, or the length where there is none.
+pub fn until(s: &[u8], b: u8) -> usize
+    ensures { λ r. ⌜ r ≤ length (now (s .entry)) ⌝ }
+{
+    let mut at = 0;
+    while at < s.len() {
+        if s[at] == b {
+            break;
+        }
+        at += 1;
+    }
+    at
+}
+
+// Reads `text`.
+pub fn skip(s: &[u8], c: Cursor, text: &[u8]) -> Cursor {
+    let Cursor::At(from) = c else {
+        return Cursor::Lost;
+    };
+    let mut at = from;
+    let mut i = 0;
+    while i < text.len() {
+        if s.len() <= at {
+            return Cursor::Lost;
+        }
+        if s[at] != text[i] {
+            return Cursor::Lost;
+        }
+        at += 1;
+        i += 1;
+    }
+    Cursor::At(at)
+}
+
+// Reads 0 or 1.
+pub fn read_order(s: &[u8], c: Cursor) -> Order {
+    let zero = skip(s, c, b"0");
+    if let Cursor::At(_) = zero {
+        return Order {
+            greater: false,
+            next: zero,
+        };
+    }
+    Order {
+        greater: true,
+        next: skip(s, c, b"1"),
+    }
+}
+
+// Reads 1 to 20 decimal digits, as far as their value fits.
+fn read_number(s: &[u8], c: Cursor) -> Number {
+    let Cursor::At(from) = c else {
+        return Number {
+            value: 0,
+            next: Cursor::Lost,
+        };
+    };
+    let mut value: usize = 0;
+    let mut at = from;
+    let mut left = NUMBER_DIGITS;
+    while left > 0 {
+        if s.len() <= at {
+            break;
+        }
+        let d = digit(s[at]) as usize;
+        if 9 < d {
+            break;
+        }
+        if (usize::MAX - d) / 10 < value {
+            break;
+        }
+        value = value * 10 + d;
+        at += 1;
+        left -= 1;
+    }
+    Number {
+        value,
+        next: if left < NUMBER_DIGITS {
+            Cursor::At(at)
+        } else {
+            Cursor::Lost
+        },
+    }
+}
+
+// Reads `mark`, and a number behind it.
+pub fn read_field(s: &[u8], c: Cursor, mark: &[u8]) -> Number {
+    read_number(s, skip(s, c, mark))
+}
+
+// Reads 16 hex digits.
+pub fn read_set(s: &[u8], c: Cursor) -> Set {
+    let Cursor::At(from) = c else {
+        return Set {
+            value: 0,
+            next: Cursor::Lost,
+        };
+    };
+    let mut value: u64 = 0;
+    let mut at = from;
+    let mut left = SET_DIGITS;
+    while left > 0 {
+        if s.len() <= at {
+            break;
+        }
+        let d = digit(s[at]);
+        if d == 16 {
+            break;
+        }
+        value = (value << 4) | (d as u64);
+        at += 1;
+        left -= 1;
+    }
+    Set {
+        value,
+        next: if left == 0 {
+            Cursor::At(at)
+        } else {
+            Cursor::Lost
+        },
+    }
+}
+
+// Reads two hex digits, if they are there: if not, `next` is still at `at`.
+fn read_byte(s: &[u8], at: usize) -> Byte {
+    if s.len() <= at {
+        return Byte { value: 0, next: at };
+    }
+    if s.len() - at < 2 {
+        return Byte { value: 0, next: at };
+    }
+    let high = digit(s[at]);
+    if high == 16 {
+        return Byte { value: 0, next: at };
+    }
+    let low = digit(s[at + 1]);
+    if low == 16 {
+        return Byte { value: 0, next: at };
+    }
+    Byte {
+        value: high * 16 + low,
+        next: at + 2,
+    }
+}
+
+// Reads a word into `into`: `-` for the empty one, else two hex digits for each byte, as far as there is room.
+pub fn read_word(s: &[u8], c: Cursor, into: &mut [u8]) -> Word
+    ensures { λ r. ⌜ r .len ≤ length (now (into .exit)) ⌝ }
+{
+    let dash = skip(s, c, b"-");
+    if let Cursor::At(_) = dash {
+        return Word { len: 0, next: dash };
+    }
+    let Cursor::At(from) = c else {
+        return Word {
+            len: 0,
+            next: Cursor::Lost,
+        };
+    };
+    let mut at = from;
+    let mut len = 0;
+    while len < into.len() {
+        let b = read_byte(s, at);
+        if b.next == at {
+            break;
+        }
+        into[len] = b.value;
+        len += 1;
+        at = b.next;
+    }
+    Word {
+        len,
+        next: if len == 0 {
+            Cursor::Lost
+        } else {
+            Cursor::At(at)
+        },
+    }
+}
+
+// Whether `s` is a script: one letter or more.
+pub fn is_script(s: &[u8]) -> bool {
+    let mut i = 0;
+    while i < s.len() {
+        if !is_letter(s[i]) {
+            return false;
+        }
+        i += 1;
+    }
+    0 < s.len()
+}
