@@ -79,9 +79,9 @@ forwardCursor s = record { at = s .position; memory = forwardMemory (s .memory) 
 abbrev pub backwardCursor : ℕ → TwoWaySearcher → window.Cursor
 backwardCursor m s = record { at = s .end; memory = backwardMemory m (s .memory) }
 
--- the record with a direction's cursor moved
-abbrev pub movedForward : TwoWaySearcher → window.Cursor → TwoWaySearcher
-movedForward s k =
+-- the record with its cursors and its memory set
+abbrev pub movedTo : TwoWaySearcher → ℕ → ℕ → Memory → TwoWaySearcher
+movedTo s position end memory =
     record {
       «needle_len» = s .«needle_len»;
       «haystack_len» = s .«haystack_len»;
@@ -89,24 +89,17 @@ movedForward s k =
       «crit_pos_back» = s .«crit_pos_back»;
       period = s .period;
       byteset = s .byteset;
-      position = k .at;
-      end = s .end;
-      memory = setForward (k .memory) (s .memory);
+      position = position;
+      end = end;
+      memory = memory;
     }
 
+-- the record with one direction's cursor moved
+abbrev pub movedForward : TwoWaySearcher → window.Cursor → TwoWaySearcher
+movedForward s k = movedTo s (k .at) (s .end) (setForward (k .memory) (s .memory))
+
 abbrev pub movedBackward : TwoWaySearcher → window.Cursor → TwoWaySearcher
-movedBackward s k =
-    record {
-      «needle_len» = s .«needle_len»;
-      «haystack_len» = s .«haystack_len»;
-      «crit_pos» = s .«crit_pos»;
-      «crit_pos_back» = s .«crit_pos_back»;
-      period = s .period;
-      byteset = s .byteset;
-      position = s .position;
-      end = k .at;
-      memory = setBackward (k .memory) (s .memory);
-    }
+movedBackward s k = movedTo s (s .position) (k .at) (setBackward (k .memory) (s .memory))
 
 -- "Counts are those of the call": a walk call prepares nothing
 abbrev pub walking : ℕ → ℕ → Counts

@@ -11,7 +11,7 @@ ghost use mathlib.Core.Path.{_≡_};
 ghost use mathlib.Core.Option.{none};
 ghost use Rattle.searcher.specs.Record.{fitsLong, fitsShort, fitsSplits, fits};
 ghost use Rattle.searcher.specs.Prepare.{refuse, prepareRule};
-ghost use Rattle.searcher.specs.Walk.{refusal, refuseStep, refuseMatch, doneStep, stepAnswer, matchAnswer, nextRule, nextBackRule, nextMatchRule, nextMatchBackRule};
+ghost use Rattle.searcher.specs.Walk.{movedTo, refusal, refuseStep, refuseMatch, doneStep, stepAnswer, matchAnswer, nextRule, nextBackRule, nextMatchRule, nextMatchBackRule};
 ghost use Rattle.searcher.specs.Code.{toCheck, ofStop, StopFits, walkedForward, walkedBackward};
 
 // What a walk remembers of the window before: nothing where the needle's period is long, else a number for each direction.
@@ -335,6 +335,23 @@ impl TwoWaySearcher {
         }
     }
 
+    // The record with its cursors and its memory set.
+    fn moved(self, position: usize, end: usize, memory: Memory) -> TwoWaySearcher
+        ensures { λ r. ⌜ r ≡ movedTo self position «end» memory ⌝ }
+    {
+        TwoWaySearcher {
+            needle_len: self.needle_len,
+            haystack_len: self.haystack_len,
+            crit_pos: self.crit_pos,
+            crit_pos_back: self.crit_pos_back,
+            period: self.period,
+            byteset: self.byteset,
+            position,
+            end,
+            memory,
+        }
+    }
+
     // A search forward: the numbers are taken out of the record once, and put back once.
     fn forward(self, haystack: &[u8], needle: &[u8], early: bool) -> Walked
         requires { ⌜ refusal (now needle) (now haystack) self ≡ none ⌝ }
@@ -356,20 +373,11 @@ impl TwoWaySearcher {
         };
         let r = search::forward_search(haystack, needle, v, start, early);
         let stop = r.stop;
-        let at = r.cursor.at;
+        let kept = kinds::set_forward(r.cursor.memory, memory);
+        let walk = self.moved(r.cursor.at, self.end, kept);
         Walked {
             stop,
-            walk: TwoWaySearcher {
-                needle_len: self.needle_len,
-                haystack_len: self.haystack_len,
-                crit_pos: self.crit_pos,
-                crit_pos_back: self.crit_pos_back,
-                period: self.period,
-                byteset: self.byteset,
-                position: at,
-                end: self.end,
-                memory: kinds::set_forward(r.cursor.memory, memory),
-            },
+            walk,
             counts: Counts {
                 preparing: 0,
                 comparisons: r.comparisons,
@@ -399,20 +407,11 @@ impl TwoWaySearcher {
         };
         let r = search::backward_search(haystack, needle, v, start, early);
         let stop = r.stop;
-        let at = r.cursor.at;
+        let kept = kinds::set_backward(r.cursor.memory, memory);
+        let walk = self.moved(self.position, r.cursor.at, kept);
         Walked {
             stop,
-            walk: TwoWaySearcher {
-                needle_len: self.needle_len,
-                haystack_len: self.haystack_len,
-                crit_pos: self.crit_pos,
-                crit_pos_back: self.crit_pos_back,
-                period: self.period,
-                byteset: self.byteset,
-                position: self.position,
-                end: at,
-                memory: kinds::set_backward(r.cursor.memory, memory),
-            },
+            walk,
             counts: Counts {
                 preparing: 0,
                 comparisons: r.comparisons,

@@ -18,9 +18,12 @@ backward-search-requires c κs = search (needs, backward-start)
 set-backward-requires : tie.Need-set-backward-requires
 set-backward-requires c κs = search needs
 
+moved-requires : tie.Need-moved-requires
+moved-requires c κs = search needs
+
 returns : tie.Need-returns
 unfolding backward
-returns c = let searched = c .before in rw (c .set-backward .ensures, searched .backward-search .ensures, searched .before .before .backward-keep .ensures, searched .before .backward-memory .ensures)
+returns c = let set = c .before in let searched = set .before in rw (c .moved .ensures, set .set-backward .ensures, searched .backward-search .ensures, searched .before .before .backward-keep .ensures, searched .before .backward-memory .ensures)
 
 pub backward-spec : {M : Type 1} → statement M
 backward-spec =
@@ -30,4 +33,5 @@ backward-spec =
     backward-memory-requires
     backward-search-requires
     set-backward-requires
+    moved-requires
     returns)

@@ -18,9 +18,12 @@ forward-search-requires c κs = search (needs, forward-start)
 set-forward-requires : tie.Need-set-forward-requires
 set-forward-requires c κs = search needs
 
+moved-requires : tie.Need-moved-requires
+moved-requires c κs = search needs
+
 returns : tie.Need-returns
 unfolding forward
-returns c = let searched = c .before in rw (c .set-forward .ensures, searched .forward-search .ensures, searched .before .before .forward-keep .ensures, searched .before .forward-memory .ensures)
+returns c = let set = c .before in let searched = set .before in rw (c .moved .ensures, set .set-forward .ensures, searched .forward-search .ensures, searched .before .before .forward-keep .ensures, searched .before .forward-memory .ensures)
 
 pub forward-spec : {M : Type 1} → statement M
 forward-spec =
@@ -30,4 +33,5 @@ forward-spec =
     forward-memory-requires
     forward-search-requires
     set-forward-requires
+    moved-requires
     returns)
