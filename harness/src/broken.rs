@@ -1,6 +1,7 @@
 //! Shows that the comparison can fail: every wrong model must be caught by it.
 
-use crate::compare::{Failure, Run};
+use crate::compare::Run;
+use crate::failure::Failure;
 use crate::model::{Fault, Model};
 
 const FAULTS: [(Fault, &str); 14] = [

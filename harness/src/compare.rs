@@ -2,6 +2,7 @@
 
 use crate::case::*;
 use crate::examples;
+use crate::failure::{Failure, Outcome};
 use crate::judge::judge;
 use crate::line;
 use crate::meaning;
@@ -10,29 +11,6 @@ use crate::naive;
 use crate::scripts;
 use crate::states;
 use crate::words::{self, Dice};
-
-/// A case that does not agree, and how.
-pub struct Failure {
-    case: Box<Case>,
-    why: String,
-}
-
-impl Failure {
-    fn new(case: Case, why: String) -> Failure {
-        Failure { case: Box::new(case), why }
-    }
-
-    /// Cut off where a reader has seen enough: the haystack may have 64 MiB.
-    pub fn shown(&self) -> String {
-        let brief = |text: &str| match text.get(..3000) {
-            Some(start) => format!("{start}.. ({} characters)", text.len()),
-            None => text.to_string(),
-        };
-        format!("{} | {}", brief(&line::show_case(&self.case)), brief(&self.why))
-    }
-}
-
-pub type Outcome = Result<(), Failure>;
 
 /// Counts the cases tried on one model.
 pub struct Run<'a> {
@@ -80,7 +58,7 @@ pub fn compare(seed: u64, long: bool) -> Result<u64, Failure> {
     run.bounds()?;
     run.longest_needles()?;
     let outcome = run.all(&size, &mut Dice::new(seed));
-    outcome.map_err(|failure| smallest(run.model, failure))?;
+    outcome.map_err(|failure| failure.smallest(|case| verdict(run.model, case)))?;
     Ok(run.cases)
 }
 
@@ -154,17 +132,9 @@ impl Run<'_> {
         Ok(())
     }
 
-    /// All needles over some letters in all haystacks over some, the shortest pairs first, so
-    /// that the first difference is a smallest one.
     fn pairs(&mut self, needles: (&[u8], usize), haystacks: (&[u8], usize)) -> Outcome {
-        for total in 0..=needles.1 + haystacks.1 {
-            for m in total.saturating_sub(haystacks.1)..=total.min(needles.1) {
-                for needle in words::all(needles.0, m) {
-                    for haystack in words::all(haystacks.0, total - m) {
-                        self.pair(&needle, &haystack)?;
-                    }
-                }
-            }
+        for (needle, haystack) in words::pairs(needles, haystacks) {
+            self.pair(&needle, &haystack)?;
         }
         Ok(())
     }
@@ -192,12 +162,7 @@ impl Run<'_> {
 
     /// Needles at their bound, in haystacks that nearly hold them twice.
     fn longest_needles(&mut self) -> Outcome {
-        let mut odd_end = words::power(b"a", NEEDLE_BOUND);
-        odd_end[NEEDLE_BOUND - 1] = b'b';
-        let fibonacci = words::fibonacci(*b"ab", NEEDLE_BOUND);
-        let thue_morse = words::thue_morse(*b"ab", NEEDLE_BOUND);
-        let nearly_periodic = words::power(&odd_end[NEEDLE_BOUND / 2 - 100..], NEEDLE_BOUND);
-        for needle in [odd_end, fibonacci, thue_morse, nearly_periodic] {
+        for needle in words::hard(NEEDLE_BOUND) {
             let haystack = [&needle[1..], &needle[..]].concat();
             self.splits(&needle, naive::smallest_period(&needle), haystack.len())?;
             self.searches(&needle, &haystack)?;
@@ -280,60 +245,4 @@ impl Run<'_> {
         let state = states::any_fitting(dice, m, n, set);
         self.calls(&needle, &haystack, state)
     }
-}
-
-/// Leaves out bytes and calls as long as the rest still does not agree.
-fn smallest(model: &Model, mut failure: Failure) -> Failure {
-    loop {
-        let still = |case| verdict(model, &case).err().map(|why| Failure::new(case, why));
-        let found = smaller(&failure.case).find_map(still);
-        match found {
-            Some(found) => failure = found,
-            None => return failure,
-        }
-    }
-}
-
-/// The case with a part left out. A handed-in state holds the lengths, so it stays as it is.
-fn smaller<'a>(case: &'a Case) -> Box<dyn Iterator<Item = Case> + 'a> {
-    match case {
-        Case::Suffix { word, greater } => {
-            Box::new(cuts(word).map(|word| Case::Suffix { word, greater: *greater }))
-        }
-        Case::ReverseSuffix { word, known, greater } => {
-            let (known, greater) = (*known, *greater);
-            Box::new(cuts(word).map(move |word| Case::ReverseSuffix { word, known, greater }))
-        }
-        Case::Prepare { needle, n } => {
-            Box::new(cuts(needle).map(|needle| Case::Prepare { needle, n: *n }))
-        }
-        Case::Search { needle, haystack, backward } => {
-            let built = |needle, haystack| Case::Search { needle, haystack, backward: *backward };
-            let needles = cuts(needle).map(move |needle| built(needle, haystack.clone()));
-            let haystacks = cuts(haystack).map(move |haystack| built(needle.clone(), haystack));
-            Box::new(needles.chain(haystacks))
-        }
-        Case::Walk { needle, haystack, script } => {
-            let built = |needle: &[u8], haystack: &[u8], script: &[Call]| Case::Walk {
-                needle: needle.to_vec(),
-                haystack: haystack.to_vec(),
-                script: script.to_vec(),
-            };
-            let scripts = cuts(script).map(move |script| built(needle, haystack, &script));
-            let needles = cuts(needle).map(move |needle| built(&needle, haystack, script));
-            let haystacks = cuts(haystack).map(move |haystack| built(needle, &haystack, script));
-            Box::new(scripts.chain(needles).chain(haystacks))
-        }
-        Case::Call { .. } => Box::new(std::iter::empty()),
-    }
-}
-
-/// The list without one part of it, large parts first.
-fn cuts<T: Clone>(list: &[T]) -> impl Iterator<Item = Vec<T>> + '_ {
-    let halved = |part: &usize| Some(part / 2).filter(|&part| part > 0);
-    let parts = std::iter::successors(Some(list.len()).filter(|&part| part > 0), halved);
-    parts.flat_map(move |part| {
-        let starts = (0..=list.len() - part).step_by(part);
-        starts.map(move |start| [&list[..start], &list[start + part..]].concat())
-    })
 }

@@ -75,9 +75,13 @@ pub const BOUNDS: &[Built] = &[
     (|| search(1, HAYSTACK_BOUND, false), "at:67108863 0 67108864 0"),
     (|| search(1, HAYSTACK_BOUND, true), "at:0 0 67108864 0"),
     (|| search(0, HAYSTACK_BOUND, true), "at:67108864 0 0 0"),
+    (|| absent(1, HAYSTACK_BOUND, false), "none 0 67108864 0"),
+    (|| absent(2, HAYSTACK_BOUND, false), "none * 0 *"),
+    (|| absent(2, HAYSTACK_BOUND, true), "none * 0 *"),
     (|| search(0, HAYSTACK_BOUND + 1, true), "ref:1"),
     (|| search(1, HAYSTACK_BOUND + 1, false), "ref:1"),
     (|| search(NEEDLE_BOUND + 1, HAYSTACK_BOUND + 1, false), "ref:1"),
+    (|| search(NEEDLE_BOUND + 1, HAYSTACK_BOUND + 1, true), "ref:1"),
     (|| Case::Prepare { needle: ones(NEEDLE_BOUND + 1), n: 0 }, "ref:2"),
     (|| Case::Prepare { needle: ones(NEEDLE_BOUND + 1), n: HAYSTACK_BOUND + 1 }, "ref:1"),
     (|| Case::Suffix { word: ones(NEEDLE_BOUND), greater: false }, "ok 0 1 65535"),
@@ -99,6 +103,11 @@ fn search(m: usize, n: usize, backward: bool) -> Case {
     let far = if backward { 0..m } else { n - m..n };
     haystack[far].fill(1);
     Case::Search { needle: ones(m), haystack, backward }
+}
+
+/// Ones in zeros alone.
+fn absent(m: usize, n: usize, backward: bool) -> Case {
+    Case::Search { needle: ones(m), haystack: vec![0; n], backward }
 }
 
 fn reverse(len: usize) -> Case {

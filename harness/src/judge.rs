@@ -46,3 +46,15 @@ pub fn judge(model: &Model, case: &Case) -> Result<Reply, String> {
     }
     Err(why)
 }
+
+/// The answer line to a case line, or what model and Rust say if they differ.
+pub fn answer(text: &[u8]) -> Result<String, String> {
+    let Some(case) = line::parse(text) else {
+        return Ok("bad line".to_string());
+    };
+    let reply = judge(&RULES, &case);
+    reply.map(|reply| line::show_reply(&reply)).map_err(|why| {
+        let asked = line::show_case(&case);
+        format!("{asked} | {why}")
+    })
+}

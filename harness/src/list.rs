@@ -145,7 +145,7 @@ struct List {
 }
 
 pub fn lines() -> Vec<String> {
-    let mut list = List { lines: Vec::new(), seen: HashSet::new(), dice: Dice::new(SEED) };
+    let mut list = List::new(SEED);
     list.texts(examples::TABLE.iter().map(|example| example.0));
     list.source_tests();
     list.tiny();
@@ -153,13 +153,37 @@ pub fn lines() -> Vec<String> {
     list.large();
     list.handed_in();
     list.other_needle();
-    list.broken();
+    list.broken(&[(b"aabaab", b"aabaabxaa"), (b"baabb", b"baabbbaabc")]);
     list.texts(ODD.iter().copied());
     list.texts(MALFORMED.iter().copied());
     list.lines
 }
 
+/// Lines of every kind from a seed of their own, in any order: what is seeded in the list,
+/// words of up to 4,096 bytes, and damaged lines.
+pub fn batch(seed: u64) -> Vec<Vec<u8>> {
+    let mut list = List::new(seed);
+    list.seeded();
+    list.long_words();
+    list.handed_in();
+    list.other_needle();
+    let (needle, haystack) = words::pair(&mut list.dice, 12, 30);
+    list.broken(&[(&needle, &haystack)]);
+    list.texts(ODD.iter().copied());
+    list.texts(MALFORMED.iter().copied());
+    let mut lines = list.damaged(120);
+    lines.extend(list.lines.iter().map(|line| line.clone().into_bytes()));
+    for last in (1..lines.len()).rev() {
+        lines.swap(last, list.dice.between(0, last));
+    }
+    lines
+}
+
 impl List {
+    fn new(seed: u64) -> List {
+        List { lines: Vec::new(), seen: HashSet::new(), dice: Dice::new(seed) }
+    }
+
     /// Each line once.
     fn text(&mut self, line: String) {
         if self.seen.insert(line.clone()) {
@@ -310,9 +334,8 @@ impl List {
         }
     }
 
-    /// States that don't fit by one number alone, of both kinds and by every field.
-    fn broken(&mut self) {
-        let pairs: [(&[u8], &[u8]); 2] = [(b"aabaab", b"aabaabxaa"), (b"baabb", b"baabbbaabc")];
+    /// States that don't fit by one number alone, by every field.
+    fn broken(&mut self, pairs: &[(&[u8], &[u8])]) {
         let mut calls = Call::ALL.into_iter().cycle();
         for (needle, haystack) in pairs {
             let (m, n) = (needle.len(), haystack.len());
@@ -323,5 +346,52 @@ impl List {
                 }
             }
         }
+    }
+
+    /// All that can be asked of words of up to 4,096 bytes.
+    fn long_words(&mut self) {
+        for needle_max in [12, 300, 4096] {
+            let (needle, haystack) = words::pair(&mut self.dice, needle_max, 4096);
+            let (m, n) = (needle.len(), haystack.len());
+            let any = self.dice.between(0, m + 1);
+            self.suffixes(&needle);
+            self.reverse_suffixes(&needle, naive::smallest_period(&needle));
+            self.reverse_suffixes(&needle, any);
+            self.searches(&needle, &haystack);
+            let calls = self.dice.between(1, 40);
+            let script = (0..calls).map(|_| self.dice.pick(&Call::ALL)).collect();
+            self.walk(&needle, &haystack, script);
+            let (prepared, _) = RULES.prepare(&needle, n);
+            let fitting = states::any_fitting(&mut self.dice, m, n, prepared.set);
+            for call in Call::ALL {
+                self.call(call, &needle, &haystack, prepared);
+                self.call(call, &needle, &haystack, fitting);
+            }
+            self.case(Case::Prepare { needle, n });
+        }
+    }
+
+    /// Lines of the list with one byte replaced, put in or left out, or cut off. A few of them
+    /// are still well formed.
+    fn damaged(&mut self, number: usize) -> Vec<Vec<u8>> {
+        (0..number).map(|_| self.damaged_one()).collect()
+    }
+
+    fn damaged_one(&mut self) -> Vec<u8> {
+        let line = self.dice.between(0, self.lines.len() - 1);
+        let mut line = self.lines[line].clone().into_bytes();
+        let place = self.dice.between(0, line.len());
+        let any = self.dice.between(0, 255) as u8;
+        let byte = self.dice.pick(&[b' ', b':', b'-', b'0', b'9', b'a', b'A', b'f', b'F', any]);
+        let rest = line.split_off(place);
+        match self.dice.between(0, 3) {
+            0 => line.push(byte),
+            1 => line.extend([&[byte], &rest[..]].concat()),
+            2 => line.extend(rest.iter().skip(1)),
+            _ => line.extend([byte].iter().chain(rest.iter().skip(1))),
+        }
+        // A newline would make two lines of it.
+        line.retain(|&byte| byte != b'\n');
+        line
     }
 }

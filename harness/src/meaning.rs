@@ -83,11 +83,7 @@ fn found(
     position: Option<usize>,
     counts: &Counts,
 ) -> Result<(), String> {
-    let meant = if backward {
-        naive::greatest(needle, haystack)
-    } else {
-        naive::least(needle, haystack, 0)
-    };
+    let meant = naive::meant(needle, haystack, backward);
     ensure(position == meant, &format!("the occurrence meant is {meant:?}"))?;
     ensure(counts.preparing <= 9 * needle.len() as u64, "preparing above 9m")?;
     ensure(within(counts, needle.len(), haystack.len()), TOO_MANY)

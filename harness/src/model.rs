@@ -132,6 +132,11 @@ impl Model {
         self.refusal(&Asked { m, n, walking, state })
     }
 
+    /// The refusal of a find or rfind, by the lengths alone.
+    pub fn refusal_of_search(&self, m: usize, n: usize) -> Option<u8> {
+        self.refusal(&Asked { m, n, walking: false, state: None })
+    }
+
     /// "Checks run in the order 1, 2, 3, 4, and the first that applies is the answer"
     fn refusal(&self, asked: &Asked) -> Option<u8> {
         let mut checks = [

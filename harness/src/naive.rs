@@ -16,6 +16,15 @@ pub fn greatest(needle: &[u8], haystack: &[u8]) -> Option<usize> {
     (0..(haystack.len() + 1).saturating_sub(m)).rfind(|&i| haystack[i..i + m] == *needle)
 }
 
+/// What a search means: the least occurrence, or backward the greatest.
+pub fn meant(needle: &[u8], haystack: &[u8], backward: bool) -> Option<usize> {
+    if backward {
+        greatest(needle, haystack)
+    } else {
+        least(needle, haystack, 0)
+    }
+}
+
 /// The occurrences from the left, each the least one behind the one before.
 pub fn greedy(needle: &[u8], haystack: &[u8]) -> Vec<usize> {
     let mut list = Vec::new();

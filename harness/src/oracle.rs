@@ -43,30 +43,11 @@
 //! differ, `oracle answer` prints a line that begins with DISAGREE to standard error and ends
 //! with status 1.
 
-mod broken;
-mod case;
-mod compare;
-mod examples;
-mod judge;
-mod line;
-mod list;
-mod meaning;
-mod model;
-mod naive;
-mod scripts;
-mod states;
-mod words;
-
+use harness::{broken, compare, judge, list, program};
 use std::io::{self, BufRead, Write};
 use std::process::ExitCode;
 
-// A state's numbers are usize here and 64 bits wide in the lines.
-const _: () = assert!(usize::BITS == 64);
-
 const USAGE: &str = "oracle answer | list | compare [--seed S] [--long] | break";
-
-/// The paper's year.
-const SEED: u64 = 1991;
 
 fn main() -> ExitCode {
     let words: Vec<String> = std::env::args().skip(1).collect();
@@ -74,12 +55,9 @@ fn main() -> ExitCode {
     let outcome = match words[..] {
         ["answer"] => answer(),
         ["list"] => list(),
-        ["compare", ref options @ ..] => match compare_options(options) {
-            Some((seed, long)) => Ok(compare(seed, long)),
-            None => Ok(usage()),
-        },
-        ["break"] => Ok(status(broken::all_caught())),
-        _ => Ok(usage()),
+        ["compare", ref options @ ..] => Ok(compare(options)),
+        ["break"] => Ok(program::status(broken::all_caught())),
+        _ => Ok(program::usage(USAGE)),
     };
     outcome.unwrap_or_else(|error| {
         eprintln!("oracle: {error}");
@@ -87,35 +65,16 @@ fn main() -> ExitCode {
     })
 }
 
-fn usage() -> ExitCode {
-    eprintln!("{USAGE}");
-    ExitCode::from(2)
-}
-
-fn status(good: bool) -> ExitCode {
-    if good {
-        ExitCode::SUCCESS
-    } else {
-        ExitCode::FAILURE
-    }
-}
-
 fn answer() -> io::Result<ExitCode> {
     let mut input = io::stdin().lock();
     let mut output = io::BufWriter::new(io::stdout().lock());
     let mut text = Vec::new();
     while input.read_until(b'\n', &mut text)? > 0 {
-        let asked = text.strip_suffix(b"\n").unwrap_or(&text);
-        let Some(case) = line::parse(asked) else {
-            writeln!(output, "bad line")?;
-            text.clear();
-            continue;
-        };
-        match judge::judge(&model::RULES, &case) {
-            Ok(reply) => writeln!(output, "{}", line::show_reply(&reply))?,
+        match judge::answer(text.strip_suffix(b"\n").unwrap_or(&text)) {
+            Ok(reply) => writeln!(output, "{reply}")?,
             Err(why) => {
                 output.flush()?;
-                eprintln!("DISAGREE {} | {why}", line::show_case(&case));
+                eprintln!("DISAGREE {why}");
                 return Ok(ExitCode::FAILURE);
             }
         }
@@ -134,23 +93,11 @@ fn list() -> io::Result<ExitCode> {
     Ok(ExitCode::SUCCESS)
 }
 
-/// The seed and whether the run is long.
-fn compare_options(options: &[&str]) -> Option<(u64, bool)> {
-    match options {
-        [] => Some((SEED, false)),
-        ["--long", rest @ ..] => Some((compare_options(rest)?.0, true)),
-        ["--seed", seed, rest @ ..] => Some((seed.parse().ok()?, compare_options(rest)?.1)),
-        _ => None,
-    }
-}
-
-fn compare(seed: u64, long: bool) -> ExitCode {
-    match compare::compare(seed, long) {
-        Ok(cases) => println!("compare: {cases} cases agree (seed {seed})"),
-        Err(failure) => {
-            println!("compare: DIFFERENCE {}", failure.shown());
-            return ExitCode::FAILURE;
-        }
-    }
-    ExitCode::SUCCESS
+fn compare(options: &[&str]) -> ExitCode {
+    let Some((seed, long)) = program::options(options) else {
+        return program::usage(USAGE);
+    };
+    let outcome = compare::compare(seed, long);
+    let shown = outcome.map(|cases| format!("{cases} cases")).map_err(|failure| failure.shown());
+    program::report("compare", seed, shown)
 }

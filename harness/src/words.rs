@@ -55,6 +55,23 @@ pub fn up_to(letters: &[u8], longest: usize) -> impl Iterator<Item = Word> + '_ 
     (0..=longest).flat_map(move |len| all(letters, len))
 }
 
+/// All needles over some letters in all haystacks over some, each up to a length, the shortest
+/// pairs first, so that the first difference is a smallest one.
+pub fn pairs<'a>(
+    needles: (&'a [u8], usize),
+    haystacks: (&'a [u8], usize),
+) -> impl Iterator<Item = (Word, Word)> + 'a {
+    let lengths = (0..=needles.1 + haystacks.1).flat_map(move |total| {
+        let shortest = total.saturating_sub(haystacks.1);
+        (shortest..=total.min(needles.1)).map(move |m| (m, total - m))
+    });
+    lengths.flat_map(move |(m, n)| {
+        all(needles.0, m).flat_map(move |needle| {
+            all(haystacks.0, n).map(move |haystack| (needle.clone(), haystack))
+        })
+    })
+}
+
 pub fn random(dice: &mut Dice, letters: &[u8], len: usize) -> Word {
     (0..len).map(|_| dice.pick(letters)).collect()
 }
@@ -85,6 +102,14 @@ pub fn fibonacci(letters: [u8; 2], len: usize) -> Word {
 
 pub fn thue_morse(letters: [u8; 2], len: usize) -> Word {
     (0..len).map(|i| letters[i.count_ones() as usize % 2]).collect()
+}
+
+/// A run with an odd end, Fibonacci, Thue-Morse, and a nearly periodic word.
+pub fn hard(len: usize) -> [Word; 4] {
+    let mut odd_end = power(b"a", len);
+    odd_end[len - 1] = b'b';
+    let nearly_periodic = power(&odd_end[len / 2 - len / 650..], len);
+    [odd_end, fibonacci(*b"ab", len), thue_morse(*b"ab", len), nearly_periodic]
 }
 
 /// A needle of some kind that is hard for one searcher or another.

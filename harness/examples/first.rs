@@ -1,0 +1,11 @@
+//! A first use from Rust: prints 2 and 7.
+
+use port::Found;
+
+fn main() {
+    for found in [port::find(b"xxABxxxAB", b"AB"), port::rfind(b"xxABxxxAB", b"AB")] {
+        if let Found::At(position) = found {
+            println!("{position}");
+        }
+    }
+}

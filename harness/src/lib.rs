@@ -1,0 +1,20 @@
+//! What the programs of the harness have in common.
+
+pub mod broken;
+pub mod case;
+pub mod compare;
+pub mod examples;
+pub mod failure;
+pub mod judge;
+pub mod line;
+pub mod list;
+pub mod meaning;
+pub mod model;
+pub mod naive;
+pub mod program;
+pub mod scripts;
+pub mod states;
+pub mod words;
+
+// A state's numbers are usize here and 64 bits wide in the lines.
+const _: () = assert!(usize::BITS == 64);
