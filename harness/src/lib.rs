@@ -4,6 +4,7 @@ pub mod broken;
 pub mod case;
 pub mod compare;
 pub mod examples;
+pub mod exhaustive;
 pub mod failure;
 pub mod judge;
 pub mod line;

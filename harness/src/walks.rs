@@ -1,5 +1,6 @@
 //! A program that answers case lines, against the oracle's own answers.
 
+use harness::exhaustive;
 use harness::failure::{brief, Failure};
 use harness::judge;
 use harness::line;
@@ -9,7 +10,8 @@ use std::io::{self, Write};
 use std::process::{Command, Stdio};
 
 const SHORT_RUN: usize = 250;
-const LONG_RUN: usize = 10_000;
+const LONG_RUN: usize = 2_000;
+const AT_A_TIME: usize = 20_000;
 
 /// Runs the program on one batch of lines after the other: how many lines agree, or the
 /// smallest that does not.
@@ -25,7 +27,21 @@ pub fn differ(program: &str, seed: u64, long: bool) -> Result<String, String> {
         }
         lines += held(program, &input)?;
     }
-    Ok(format!("{lines} lines in {batches} batches"))
+    if long {
+        lines += every_small(program)?;
+    }
+    Ok(format!("{lines} lines in {batches} batches{}", if long { ", every small case among them" } else { "" }))
+}
+
+/// Every small case, so many lines at a time.
+fn every_small(program: &str) -> Result<usize, String> {
+    let mut cases = exhaustive::cases().peekable();
+    let mut count = 0;
+    while cases.peek().is_some() {
+        let some = cases.by_ref().take(AT_A_TIME).map(|case| line::show_case(&case) + "\n");
+        count += held(program, some.collect::<String>().as_bytes())?;
+    }
+    Ok(count)
 }
 
 /// Behind the last newline an empty rest is no line.

@@ -1,0 +1,76 @@
+//! Every small case, so that nothing small is left to chance.
+
+use crate::case::*;
+use crate::scripts;
+use crate::states;
+use crate::words;
+
+const AB: &[u8] = b"ab";
+const ABC: &[u8] = b"abc";
+
+/// Both maximal suffix calls on all words over 2 letters up to 12 and over 3 up to 8, in both
+/// orders, with every known period from 0 to one more than the word has letters.
+fn suffixes() -> impl Iterator<Item = Case> {
+    let all = words::up_to(AB, 12).chain(words::up_to(ABC, 8));
+    all.flat_map(|word| {
+        let both = [false, true].into_iter();
+        both.flat_map(|greater| {
+            let forward = Case::Suffix { word: word.clone(), greater };
+            let known = (0..=word.len() + 1)
+                .map(|known| Case::ReverseSuffix { word: word.clone(), known, greater });
+            std::iter::once(forward).chain(known).collect::<Vec<_>>()
+        })
+        .collect::<Vec<_>>()
+    })
+}
+
+/// Walks to the end in both directions by steps and by matches, a mix of all four, and both
+/// searches, for all pairs over 2 letters: needles up to 6, haystacks up to 10.
+fn walks() -> impl Iterator<Item = Case> {
+    words::pairs((AB, 6), (AB, 10)).flat_map(|(needle, haystack)| {
+        let rounds: [&[Call]; 5] = [
+            &[Call::Step],
+            &[Call::StepBack],
+            &[Call::Next],
+            &[Call::NextBack],
+            &[Call::Step, Call::NextBack, Call::StepBack, Call::Next],
+        ];
+        let mut cases: Vec<Case> = Vec::new();
+        for round in rounds {
+            let script = scripts::whole(&needle, &haystack, round);
+            cases.push(Case::Walk { needle: needle.clone(), haystack: haystack.clone(), script });
+        }
+        for backward in [false, true] {
+            let (needle, haystack) = (needle.clone(), haystack.clone());
+            cases.push(Case::Search { needle, haystack, backward });
+        }
+        cases
+    })
+}
+
+/// Every call from every fitting state, and from each with one number changed, for needles of
+/// 1 to 3 letters in haystacks of up to 4.
+fn handed_in() -> impl Iterator<Item = Case> {
+    words::pairs((AB, 3), (AB, 4)).filter(|pair| !pair.0.is_empty()).flat_map(|(needle, haystack)| {
+        // a's bit and b's bit
+        let fitting = states::all_fitting(needle.len(), haystack.len(), 6 << 32);
+        fitting
+            .flat_map(|state| {
+                let changed = states::with_one_change(&state);
+                // Changed ones of a few states are enough: they differ in the number changed.
+                let some = state.position == 0 && state.end == state.n;
+                std::iter::once(state).chain(changed.into_iter().filter(move |_| some))
+            })
+            .flat_map(|state| {
+                Call::ALL.map(|call| {
+                    let (needle, haystack) = (needle.clone(), haystack.clone());
+                    Case::Call { call, needle, haystack, state }
+                })
+            })
+            .collect::<Vec<_>>()
+    })
+}
+
+pub fn cases() -> impl Iterator<Item = Case> {
+    suffixes().chain(walks()).chain(handed_in())
+}
