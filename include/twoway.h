@@ -1,9 +1,9 @@
 /*
  * twoway: finding a pattern in a text, from the front and from the back.
  *
- * The functions stand in target/staticlib/libtwoway.a, which `rt staticlib twoway` writes. They
- * keep nothing between calls, take no memory, write to none and print nothing, so they may run
- * in several threads at once.
+ * The functions stand in target/staticlib/libtwoway.a, for Linux on x86-64, which
+ * `rt staticlib twoway` writes. They read the bytes that they are given, allocate nothing, print
+ * nothing and keep nothing between calls, so they may run in several threads at once.
  *
  * Each answers a position, counted in bytes from the text's first byte (which is 0), or one of
  * the three codes below. A position is at most TWOWAY_TEXT_MAX, so a code is never taken for

@@ -9,15 +9,16 @@ use harness::model::HAYSTACK_BOUND;
 use harness::program;
 use harness::words::{self, Dice};
 use port::Found;
+use std::ffi::c_long;
 use std::hint::black_box;
 use std::process::ExitCode;
-use std::time::Instant;
 
 extern "C" {
     fn memmem(text: *const u8, n: usize, pattern: *const u8, m: usize) -> *const u8;
+    fn clock() -> c_long;
 }
 
-const ROUNDS: usize = 9;
+const ROUNDS: usize = 11;
 const SEED: u64 = 64;
 
 /// The byte that stands nowhere in the trace.
@@ -106,9 +107,11 @@ impl<'a> Row<'a> {
 
 /// Makes the best time smaller if this is faster, and hands on what the search says.
 fn timed(best: &mut f64, search: impl Fn() -> bool) -> bool {
-    let start = Instant::now();
+    // Microseconds that this process has had a processor: others may want it too.
+    let now = || unsafe { clock() };
+    let start = now();
     let found = black_box(search());
-    *best = best.min(start.elapsed().as_secs_f64() * 1e3);
+    *best = best.min((now() - start) as f64 / 1e3);
     found
 }
 

@@ -1,1 +1,4 @@
+pub mod Examples
 pub mod Printed
+pub mod Printing
+pub mod Reading

@@ -1,7 +1,10 @@
 // Reading a line. A reader takes what it can and stops. What stands behind it, a space, a colon or the end, is the next one's to ask:
 // there a field is refused that is too long, or that breaks off.
-ghost use Prim.Native.Nat.{_≤_};
+ghost use mathlib.Core.Path.{_≡_};
+ghost use Prim.Native.Nat.{_+_, _≤_};
+ghost use mathlib.Core.Bool.{cond};
 ghost use lib.ListN.{length};
+ghost use Rattle.lines.specs.Reading.{isEnd, firstIndex, isLetter, isScript, skipped, orderAt, digitOf, numberAt, setAt, hasByte, byteAt, ReadsWord};
 
 // Where reading stands: at a byte of the line, or nowhere, once something was not of its form. Then it stays so.
 pub enum Cursor {
@@ -42,6 +45,7 @@ const SET_DIGITS: usize = 16;
 // The value of a hex digit, or 16 for a byte that is none.
 fn digit(b: u8) -> u8
     ensures { λ r. ⌜ r ≤ 16 ⌝ }
+    ensures rule { λ r. ⌜ r ≡ digitOf b ⌝ }
 {
     match b {
         b'0'..=b'9' => b - b'0',
@@ -51,7 +55,9 @@ fn digit(b: u8) -> u8
 }
 
 // Whether a script may have the byte `b`.
-fn is_letter(b: u8) -> bool {
+fn is_letter(b: u8) -> bool
+    ensures rule { λ r. ⌜ r ≡ isLetter b ⌝ }
+{
     match b {
         b'f' | b'b' | b'F' | b'B' => true,
         _ => false,
@@ -59,7 +65,9 @@ fn is_letter(b: u8) -> bool {
 }
 
 // Whether the whole line is read.
-pub fn is_end(s: &[u8], c: Cursor) -> bool {
+pub fn is_end(s: &[u8], c: Cursor) -> bool
+    ensures rule { λ r. ⌜ r ≡ isEnd (length (now (s .entry))) c ⌝ }
+{
     match c {
         Cursor::At(at) => at == s.len(),
         Cursor::Lost => false,
@@ -69,6 +77,7 @@ pub fn is_end(s: &[u8], c: Cursor) -> bool {
 // The place of the first `b`, or the length where there is none.
 pub fn until(s: &[u8], b: u8) -> usize
     ensures { λ r. ⌜ r ≤ length (now (s .entry)) ⌝ }
+    ensures rule { λ r. ⌜ r ≡ firstIndex b (now (s .entry)) ⌝ }
 {
     let mut at = 0;
     while at < s.len() {
@@ -81,7 +90,9 @@ pub fn until(s: &[u8], b: u8) -> usize
 }
 
 // Reads `text`.
-pub fn skip(s: &[u8], c: Cursor, text: &[u8]) -> Cursor {
+pub fn skip(s: &[u8], c: Cursor, text: &[u8]) -> Cursor
+    ensures rule { λ r. ⌜ r ≡ skipped (now (s .entry)) c (now (text .entry)) ⌝ }
+{
     let Cursor::At(from) = c else {
         return Cursor::Lost;
     };
@@ -101,7 +112,9 @@ pub fn skip(s: &[u8], c: Cursor, text: &[u8]) -> Cursor {
 }
 
 // Reads 0 or 1.
-pub fn read_order(s: &[u8], c: Cursor) -> Order {
+pub fn read_order(s: &[u8], c: Cursor) -> Order
+    ensures rule { λ r. ⌜ r ≡ orderAt (now (s .entry)) c ⌝ }
+{
     let zero = skip(s, c, b"0");
     if let Cursor::At(_) = zero {
         return Order {
@@ -116,7 +129,9 @@ pub fn read_order(s: &[u8], c: Cursor) -> Order {
 }
 
 // Reads 1 to 20 decimal digits, as far as their value fits.
-fn read_number(s: &[u8], c: Cursor) -> Number {
+fn read_number(s: &[u8], c: Cursor) -> Number
+    ensures rule { λ r. ⌜ r ≡ numberAt (now (s .entry)) c ⌝ }
+{
     let Cursor::At(from) = c else {
         return Number {
             value: 0,
@@ -152,12 +167,16 @@ fn read_number(s: &[u8], c: Cursor) -> Number {
 }
 
 // Reads `mark`, and a number behind it.
-pub fn read_field(s: &[u8], c: Cursor, mark: &[u8]) -> Number {
+pub fn read_field(s: &[u8], c: Cursor, mark: &[u8]) -> Number
+    ensures rule { λ r. ⌜ r ≡ numberAt (now (s .entry)) (skipped (now (s .entry)) c (now (mark .entry))) ⌝ }
+{
     read_number(s, skip(s, c, mark))
 }
 
 // Reads 16 hex digits.
-pub fn read_set(s: &[u8], c: Cursor) -> Set {
+pub fn read_set(s: &[u8], c: Cursor) -> Set
+    ensures rule { λ r. ⌜ r ≡ setAt (now (s .entry)) c ⌝ }
+{
     let Cursor::At(from) = c else {
         return Set {
             value: 0,
@@ -190,7 +209,10 @@ pub fn read_set(s: &[u8], c: Cursor) -> Set {
 }
 
 // Reads two hex digits, if they are there: if not, `next` is still at `at`.
-fn read_byte(s: &[u8], at: usize) -> Byte {
+fn read_byte(s: &[u8], at: usize) -> Byte
+    ensures place { λ r. ⌜ r .next ≡ cond (hasByte (now (s .entry)) at) (at + 2) at ⌝ }
+    ensures byte { λ r. ⌜ r .value ≡ cond (hasByte (now (s .entry)) at) (byteAt (now (s .entry)) at) 0 ⌝ }
+{
     if s.len() <= at {
         return Byte { value: 0, next: at };
     }
@@ -214,6 +236,7 @@ fn read_byte(s: &[u8], at: usize) -> Byte {
 // Reads a word into `into`: `-` for the empty one, else two hex digits for each byte, as far as there is room.
 pub fn read_word(s: &[u8], c: Cursor, into: &mut [u8]) -> Word
     ensures { λ r. ⌜ r .len ≤ length (now (into .exit)) ⌝ }
+    ensures rule { λ r. ⌜ ReadsWord (now (s .entry)) c (now (into .entry)) (now (into .exit)) r ⌝ }
 {
     let dash = skip(s, c, b"-");
     if let Cursor::At(_) = dash {
@@ -247,7 +270,9 @@ pub fn read_word(s: &[u8], c: Cursor, into: &mut [u8]) -> Word
 }
 
 // Whether `s` is a script: one letter or more.
-pub fn is_script(s: &[u8]) -> bool {
+pub fn is_script(s: &[u8]) -> bool
+    ensures rule { λ r. ⌜ r ≡ isScript (now (s .entry)) ⌝ }
+{
     let mut i = 0;
     while i < s.len() {
         if !is_letter(s[i]) {

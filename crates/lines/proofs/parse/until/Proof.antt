@@ -1,12 +1,17 @@
--- `lines::parse::until` meets its contract. The loop's invariant: the place is within the line. The measure is what is left of it. Assumes nothing.
-use Prim.Native.Nat.{_-_, _≤_}
+-- `lines::parse::until` meets its contract. The loop's invariant: the place is within the line, and no byte before it is the one that is looked for.
+-- The measure is what is left of it. Assumes nothing.
+use Prim.Native.Nat.{_+_, _-_, _≤_}
+use mathlib.Core.Path.{_≡_}
+use native.Mathlib.Omega.{arith}
 use borrow.Author.Needs.{needs}
-use lib.ListN.{length}
+use lib.ListN.{length, drop}
+use Rattle.lines.specs.Reading.{firstIndex}
+use Rattle.lines.proofs.Laws.{first-here, first-next, first-none}
 use Rattle.lines.proofs.parse.until.Statement.{statement}
 use Rattle.lines.proofs.parse.until.Tie as tie
 
 abbrev Inv-loop : tie.InvT-loop
-Inv-loop s b at₀ at = at ≤ length s
+Inv-loop s b at₀ at = (at ≤ length s) × (at + firstIndex b (drop at s) ≡ firstIndex b s)
 
 abbrev μ-loop : tie.MeasureT-loop
 μ-loop s b at₀ at = length s - at
@@ -24,13 +29,19 @@ loop-less : tie.Need-loop-less Inv-loop μ-loop
 loop-less c = search needs
 
 loop-again : tie.Need-loop-again Inv-loop μ-loop
-loop-again c = search needs
+loop-again c =
+    let args = c .before .before .before .before .args in
+    omega (arith, first-next (args .b) (args .s .now) (c .before .before .before .loop .at) (c .before .before .loop-test .taken) (c .if1 .left))
 
 returns : tie.Need-returns Inv-loop μ-loop
-returns c = search needs
+returns c =
+    let args = c .before .before .args in
+    omega (arith, first-none (args .b) (args .s .now) (c .before .loop .at) (c .loop-test .left))
 
 returns-2 : tie.Need-returns-2 Inv-loop μ-loop
-returns-2 c = search needs
+returns-2 c =
+    let args = c .before .before .before .before .args in
+    omega (arith, first-here (args .b) (args .s .now) (c .before .before .before .loop .at) (c .before .before .loop-test .taken) (c .if1 .taken))
 
 pub until-spec : {M : Type 1} → statement M
 until-spec =

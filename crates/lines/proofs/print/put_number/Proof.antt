@@ -1,6 +1,6 @@
 -- `lines::print::put_number` meets its contract: a number has at most 20 digits. Assumes nothing.
 use borrow.Author.Needs.{needs}
-use Rattle.lines.proofs.Digits.{decimal-room}
+use Rattle.lines.proofs.Digits.{decimal-room, decimal-shown}
 use Rattle.lines.proofs.print.put_number.Statement.{statement}
 use Rattle.lines.proofs.print.put_number.Tie as tie
 
@@ -20,7 +20,17 @@ same-length : tie.Need-same-length
 same-length c = search needs
 
 returns : tie.Need-returns
-returns c = search (needs, decimal-room)
+returns c =
+    let start = c .before .before .before .before .before .before .before .before in
+    let decimal = c .before .before .before .before .before .decimal in
+    let put = c .before .before .put in (
+      search (needs, decimal-room),
+      decimal-shown (start .args .n) (decimal .result) (start .args .at) (put .result) (start .args .out .now) _ (put .last .0)
+          (start .fits .n .fits)
+          (decimal .ensures .1 .0)
+          (decimal .ensures .1 .1)
+          (put .ensures .1),
+    )
 
 pub put-number-spec : {M : Type 1} → statement M
 put-number-spec =

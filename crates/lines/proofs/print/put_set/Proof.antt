@@ -1,6 +1,6 @@
 -- `lines::print::put_set` meets its contract: a set has at most 16 digits. Assumes nothing.
 use borrow.Author.Needs.{needs}
-use Rattle.lines.proofs.Digits.{hex-room}
+use Rattle.lines.proofs.Digits.{hex-room, hex-shown}
 use Rattle.lines.proofs.print.put_set.Statement.{statement}
 use Rattle.lines.proofs.print.put_set.Tie as tie
 
@@ -20,7 +20,17 @@ same-length : tie.Need-same-length
 same-length c = search needs
 
 returns : tie.Need-returns
-returns c = search (needs, hex-room)
+returns c =
+    let start = c .before .before .before .before .before .before .before .before in
+    let hex = c .before .before .before .before .before .hex in
+    let put = c .before .before .put in (
+      search (needs, hex-room),
+      hex-shown (start .args .set) (hex .result) (start .args .at) (put .result) (start .args .out .now) _ (put .last .0)
+          (start .fits .set .fits)
+          (hex .ensures .1 .0)
+          (hex .ensures .1 .1)
+          (put .ensures .1),
+    )
 
 pub put-set-spec : {M : Type 1} → statement M
 put-set-spec =

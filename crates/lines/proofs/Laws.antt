@@ -1,0 +1,425 @@
+-- What a reader or a printer shows as it goes, one law for each way through its loop.
+-- Assumes nothing.
+use Prim.Native.Nat.{ℕ, zero, suc, _+_, _-_, _*_, _/_, _%_, _^_, _<_, _≤_, min}
+use mathlib.Core.Path.{_≡_, refl, sym, _∙_, ap}
+use mathlib.Core.Bool.{Bool, true, false, cond}
+use mathlib.Core.List.{List, [], _∷_, _++_}
+use mathlib.Core.Logic.{_⊎_, inl, inr}
+use native.Mathlib.Numerals.{add-one}
+use native.Mathlib.Decide.{decLt}
+use native.Mathlib.Omega.{arith}
+use lib.Bits.{bitOr, or-shifted}
+use lib.Dec.{ltb, leb, eqb}
+use lib.ListN.{length, getD, drop, set, length-append, length-set, drop-of-length-le}
+use lib.Pow.{pow-add, shl-exact}
+use lib.Seq.{drop-cons, set-out, sets, length-sets}
+use borrow.Author.Tests.{lt-ltb, le-ltb, le-leb, lt-leb, eq-eqb, ne-eqb}
+use Rattle.lines.specs.Printing.{Prints, decimalText, rowText}
+use Rattle.lines.specs.Reading.{firstIndex, isLetter, allLetters, isScript, starts, skipped, orderOf, orderAt, digitOf, takes, numbered, numberFrom, numberAt, setFrom, setAt, hasByte, byteAt, bytesFrom, wordBytes, wordAt, ReadsWord}
+use Rattle.lines.specs.declared.parse.Cursor.{Cursor}
+use Rattle.lines.specs.declared.parse.Cursor.the-variants.{At, Lost}
+use Rattle.lines.specs.declared.parse.Number.{Number}
+use Rattle.lines.specs.declared.parse.Order.{Order}
+use Rattle.lines.specs.declared.parse.Set.{Set}
+use Rattle.lines.specs.declared.parse.Word.{Word}
+
+-- the search for b stands at it, goes on, and is at the end
+module _ (b : ℕ) (s : List ℕ) (k : ℕ) where
+  pub first-here : k < length s → getD s k 0 ≡ b → firstIndex b (drop k s) ≡ 0
+  unfolding firstIndex
+  first-here h e = rw (drop-cons s k 0 h, eq-eqb (getD s k 0) b e)
+
+  pub first-next : k < length s → (getD s k 0 ≡ b → ⊥) → firstIndex b (drop k s) ≡ firstIndex b (drop (k + 1) s) + 1
+  unfolding firstIndex
+  first-next h e = rw (add-one k, drop-cons s k 0 h, ne-eqb (getD s k 0) b e)
+
+  pub first-none : length s ≤ k → firstIndex b (drop k s) ≡ 0
+  unfolding firstIndex
+  first-none h = rw (drop-of-length-le s h)
+
+-- a byte that is a letter, and one that is none
+pub letter : (x : ℕ) → (x ≡ 66) ⊎ ((x ≡ 70) ⊎ ((x ≡ 98) ⊎ (x ≡ 102))) → true ≡ isLetter x
+unfolding isLetter
+letter x (inl e) = rw e
+letter x (inr (inl e)) = rw e
+letter x (inr (inr (inl e))) = rw e
+letter x (inr (inr (inr e))) = rw e
+
+pub no-letter : (x : ℕ) → ((x ≡ 66) ⊎ ((x ≡ 70) ⊎ ((x ≡ 98) ⊎ (x ≡ 102))) → ⊥) → false ≡ isLetter x
+unfolding isLetter
+no-letter x h =
+    rw (
+      ne-eqb x 66 (λ e. h (inl e)),
+      ne-eqb x 70 (λ e. h (inr (inl e))),
+      ne-eqb x 98 (λ e. h (inr (inr (inl e)))),
+      ne-eqb x 102 (λ e. h (inr (inr (inr e)))),
+    )
+
+module _ (s : List ℕ) (i : ℕ) where
+  pub letters-next : i < length s → isLetter (getD s i 0) ≡ true → allLetters (drop i s) ≡ allLetters (drop (i + 1) s)
+  unfolding allLetters
+  letters-next h e = rw (add-one i, drop-cons s i 0 h, e)
+
+  pub letters-end : length s ≤ i → allLetters (drop i s) ≡ allLetters s → ltb 0 (length s) ≡ isScript s
+  unfolding allLetters isScript
+  letters-end h e = rw (← e, drop-of-length-le s h)
+
+  pub letters-not : i < length s → isLetter (getD s i 0) ≡ false → allLetters (drop i s) ≡ allLetters s → false ≡ isScript s
+  unfolding allLetters isScript
+  letters-not h n e = rw (← e, drop-cons s i 0 h, n)
+
+-- a text that is compared with what stands at k of s, at its byte i
+module _ (s text : List ℕ) (k i : ℕ) where
+  pub starts-next : k < length s → i < length text → getD s k 0 ≡ getD text i 0
+      → starts (drop i text) (drop k s) ≡ starts (drop (i + 1) text) (drop (k + 1) s)
+  unfolding starts
+  starts-next h hi e =
+      rw (add-one i, add-one k, drop-cons s k 0 h, drop-cons text i 0 hi, eq-eqb (getD s k 0) (getD text i 0) e)
+
+  pub starts-not : k < length s → i < length text → (getD s k 0 ≡ getD text i 0 → ⊥) → starts (drop i text) (drop k s) ≡ false
+  unfolding starts
+  starts-not h hi e = rw (drop-cons s k 0 h, drop-cons text i 0 hi, ne-eqb (getD s k 0) (getD text i 0) e)
+
+  pub starts-short : length s ≤ k → i < length text → starts (drop i text) (drop k s) ≡ false
+  unfolding starts
+  starts-short h hi = rw (drop-of-length-le s h, drop-cons text i 0 hi)
+
+  pub starts-whole : length text ≤ i → starts (drop i text) (drop k s) ≡ true
+  unfolding starts
+  starts-whole h = rw (drop-of-length-le text h)
+
+module _ (s : List ℕ) (c : Cursor) (text : List ℕ) where
+  pub skipped-there : (k at : ℕ) → c ≡ At k → at ≡ k + length text → starts text (drop k s) ≡ true → At at ≡ skipped s c text
+  unfolding skipped
+  skipped-there k at e q h = rw (e, h, q)
+
+  pub skipped-not : (k : ℕ) → c ≡ At k → starts text (drop k s) ≡ false → Lost ≡ skipped s c text
+  unfolding skipped
+  skipped-not k e h = rw (e, h)
+
+  pub skipped-lost : c ≡ Lost → Lost ≡ skipped s c text
+  unfolding skipped
+  skipped-lost e = rw e
+
+module _ (s : List ℕ) (c zero : Cursor) (first : zero ≡ skipped s c (48 ∷ [])) where
+  pub order-zero : (k : ℕ) → zero ≡ At k → record { greater = false; next = zero } ≡ orderAt s c
+  unfolding orderAt
+  order-zero k e = rw (← first, e)
+
+  pub order-one : (one : Cursor) → zero ≡ Lost → one ≡ skipped s c (49 ∷ []) → record { greater = true; next = one } ≡ orderAt s c
+  unfolding orderAt
+  order-one one e second = rw (← first, e, second)
+
+-- bytes that are stored from `to` on: one more of them, none left, and no room left
+pub stores-next : (room text : List ℕ) (to i : ℕ) → i < length text
+    → sets room to (drop i text) ≡ sets (set room to (getD text i 0)) (to + 1) (drop (i + 1) text)
+stores-next room text to i h = rw (add-one i, add-one to, drop-cons text i 0 h)
+
+pub stores-done : (room text : List ℕ) (to i : ℕ) → length text ≤ i → sets room to (drop i text) ≡ room
+stores-done room text to i h = rw (drop-of-length-le text h)
+
+pub stores-past : (room : List ℕ) (to : ℕ) (text : List ℕ) → length room ≤ to → sets room to text ≡ room
+stores-past room to [] h = refl
+stores-past room to (b ∷ text) h = rw (set-out room to b h) (stores-past room (suc to) text (omega arith))
+
+-- the value of a digit, and of a byte that is none
+module _ (x : ℕ) where
+  pub digit-low : 48 ≤ x → x ≤ 57 → x - 48 ≡ digitOf x
+  unfolding digitOf
+  digit-low a b = rw (le-leb 48 x a, le-leb x 57 b)
+
+  pub digit-high : 97 ≤ x → x ≤ 102 → x - 97 + 10 ≡ digitOf x
+  unfolding digitOf
+  digit-high a b = rw (le-leb 48 x (omega arith), lt-leb x 57 (omega arith), le-leb 97 x a, le-leb x 102 b)
+
+  pub digit-below : x < 48 → 16 ≡ digitOf x
+  unfolding digitOf
+  digit-below h = rw (lt-leb 48 x h, lt-leb 97 x (omega arith))
+
+  pub digit-between : 57 < x → x < 97 → 16 ≡ digitOf x
+  unfolding digitOf
+  digit-between a b = rw (le-leb 48 x (omega arith), lt-leb x 57 a, lt-leb 97 x b)
+
+  pub digit-above : 102 < x → 16 ≡ digitOf x
+  unfolding digitOf
+  digit-above h = rw (le-leb 48 x (omega arith), lt-leb x 57 (omega arith), le-leb 97 x (omega arith), lt-leb x 102 h)
+
+-- a number that takes a digit, and one that does not: no decimal one, or one with which it does not fit
+module _ (v d : ℕ) where
+  pub takes-one : d ≤ 9 → v ≤ (18446744073709551615 - d) / 10 → takes v d ≡ true
+  unfolding takes
+  takes-one a b = rw (lt-ltb d 10 (omega arith), lt-ltb (v * 10 + d) (2 ^ 64) (omega arith))
+
+  pub takes-none : 9 < d → takes v d ≡ false
+  unfolding takes
+  takes-none a = rw (le-ltb d 10 (omega arith))
+
+  pub takes-no-more : d ≤ 9 → (18446744073709551615 - d) / 10 < v → takes v d ≡ false
+  unfolding takes
+  takes-no-more a b = rw (lt-ltb d 10 (omega arith), le-ltb (v * 10 + d) (2 ^ 64) (omega arith))
+
+module _ (s : List ℕ) (v k : ℕ) where
+  pub number-next : (left : ℕ) → 0 < left → k < length s → takes v (digitOf (getD s k 0)) ≡ true
+      → numberFrom left v k (drop k s) ≡ numberFrom (left - 1) (v * 10 + digitOf (getD s k 0)) (k + 1) (drop (k + 1) s)
+  unfolding numberFrom
+  number-next zero p h e = absurd (omega arith)
+  number-next (suc left) p h e = let q : suc left - 1 ≡ left = omega arith in rw (drop-cons s k 0 h, e, add-one k, q)
+
+  pub number-stops : (left : ℕ) → k < length s → takes v (digitOf (getD s k 0)) ≡ false
+      → numberFrom left v k (drop k s) ≡ numbered left v k
+  unfolding numberFrom
+  number-stops zero h e = refl
+  number-stops (suc left) h e = rw (drop-cons s k 0 h, e)
+
+  pub number-ends : (left : ℕ) → length s ≤ k → numberFrom left v k (drop k s) ≡ numbered left v k
+  unfolding numberFrom
+  number-ends zero h = refl
+  number-ends (suc left) h = rw (drop-of-length-le s h)
+
+  pub number-full : (left : ℕ) → left ≤ 0 → numberFrom left v k (drop k s) ≡ numbered left v k
+  unfolding numberFrom
+  number-full zero h = refl
+  number-full (suc left) h = absurd (omega arith)
+
+  pub set-next : (left : ℕ) → 0 < left → k < length s → (digitOf (getD s k 0) ≡ 16 → ⊥)
+      → setFrom left v k (drop k s) ≡ setFrom (left - 1) (v * 16 + digitOf (getD s k 0)) (k + 1) (drop (k + 1) s)
+  unfolding setFrom
+  set-next zero p h e = absurd (omega arith)
+  set-next (suc left) p h e = let q : suc left - 1 ≡ left = omega arith in rw (drop-cons s k 0 h, ne-eqb (digitOf (getD s k 0)) 16 e, add-one k, q)
+
+  pub set-stops : (left : ℕ) → 0 < left → k < length s → digitOf (getD s k 0) ≡ 16 → setFrom left v k (drop k s) ≡ record { value = v; next = Lost }
+  unfolding setFrom
+  set-stops zero p h e = absurd (omega arith)
+  set-stops (suc left) p h e = rw (drop-cons s k 0 h, e)
+
+  pub set-ends : (left : ℕ) → 0 < left → length s ≤ k → setFrom left v k (drop k s) ≡ record { value = v; next = Lost }
+  unfolding setFrom
+  set-ends zero p h = absurd (omega arith)
+  set-ends (suc left) p h = rw (drop-of-length-le s h)
+
+  pub set-full : (left : ℕ) → left ≤ 0 → setFrom left v k (drop k s) ≡ record { value = v; next = At k }
+  unfolding setFrom
+  set-full zero h = refl
+  set-full (suc left) h = absurd (omega arith)
+
+module _ (s : List ℕ) (c : Cursor) where
+  pub number-is : (k : ℕ) (r : Number) → c ≡ At k → r ≡ numberFrom 20 0 k (drop k s) → r ≡ numberAt s c
+  unfolding numberAt
+  number-is k r e h = rw e h
+
+  pub number-lost : c ≡ Lost → record { value = 0; next = Lost } ≡ numberAt s c
+  unfolding numberAt
+  number-lost e = rw e
+
+  pub set-is : (k : ℕ) (r : Set) → c ≡ At k → r ≡ setFrom 16 0 k (drop k s) → r ≡ setAt s c
+  unfolding setAt
+  set-is k r e h = rw e h
+
+  pub set-lost : c ≡ Lost → record { value = 0; next = Lost } ≡ setAt s c
+  unfolding setAt
+  set-lost e = rw e
+
+-- a number that is read on by the digit d, and where reading stops
+module _ (s : List ℕ) (v k left d : ℕ) (there : k < length s) (is : d ≡ digitOf (getD s k 0)) where
+  pub number-more : 0 < left → d ≤ 9 → v ≤ (18446744073709551615 - d) / 10
+      → numberFrom left v k (drop k s) ≡ numberFrom (left - 1) (v * 10 + d) (k + 1) (drop (k + 1) s)
+  number-more p a b =
+      let t : takes v (digitOf (getD s k 0)) ≡ true = rw (← is) (takes-one v d a b) in
+      rw is (number-next s v k left p there t)
+
+  pub number-other : 9 < d → numberFrom left v k (drop k s) ≡ numbered left v k
+  number-other a =
+      let t : takes v (digitOf (getD s k 0)) ≡ false = rw (← is) (takes-none v d a) in number-stops s v k left there t
+
+  pub number-large : d ≤ 9 → (18446744073709551615 - d) / 10 < v → numberFrom left v k (drop k s) ≡ numbered left v k
+  number-large a b =
+      let t : takes v (digitOf (getD s k 0)) ≡ false = rw (← is) (takes-no-more v d a b) in
+      number-stops s v k left there t
+
+-- what is returned where reading stops at k, with `left` digits still free
+module _ (s : List ℕ) (c : Cursor) (from v k left : ℕ) (begins : c ≡ At from) where
+  pub number-read : numberFrom left v k (drop k s) ≡ numberFrom 20 0 from (drop from s) → numberFrom left v k (drop k s) ≡ numbered left v k → left < 20
+      → record { value = v; next = At k } ≡ numberAt s c
+  number-read runs stops h =
+      let here : record { value = v; next = At k } ≡ numbered left v k = rw (lt-ltb left 20 h) in
+      number-is s c from (record { value = v; next = At k }) begins (here ∙ sym stops ∙ runs)
+
+  pub number-unread : numberFrom left v k (drop k s) ≡ numberFrom 20 0 from (drop from s) → numberFrom left v k (drop k s) ≡ numbered left v k → 20 ≤ left
+      → record { value = v; next = Lost } ≡ numberAt s c
+  number-unread runs stops h =
+      let here : record { value = v; next = Lost } ≡ numbered left v k = rw (le-ltb left 20 h) in
+      number-is s c from (record { value = v; next = Lost }) begins (here ∙ sym stops ∙ runs)
+
+-- a value of `left` hex digits fewer than 16, and one digit more
+module _ (v d left : ℕ) (below : v < 2 ^ (4 * (16 - left))) (more : 0 < left) (most : left ≤ 16) (small : d < 16) where
+  pub hex-digit : bitOr (v * 16 % 18446744073709551616) d ≡ v * 16 + d
+  hex-digit =
+      ap (λ (x : ℕ). bitOr x d) (shl-exact {a = v} (4 * (16 - left)) 4 64 below (omega arith)) ∙ or-shifted v 4 d (omega arith)
+
+  pub hex-below : bitOr (v * 16 % 18446744073709551616) d < 2 ^ (4 * (16 - (left - 1)))
+  hex-below =
+      let e : 4 * (16 - (left - 1)) ≡ 4 * (16 - left) + 4 = omega arith in
+      rw (hex-digit, e, pow-add 2 (4 * (16 - left)) 4) (omega arith)
+
+  pub set-more : (s : List ℕ) (k : ℕ) → k < length s → d ≡ digitOf (getD s k 0)
+      → setFrom left v k (drop k s) ≡ setFrom (left - 1) (bitOr (v * 16 % 18446744073709551616) d) (k + 1) (drop (k + 1) s)
+  set-more s k there is =
+      let other : digitOf (getD s k 0) ≡ 16 → ⊥ = λ e. omega arith in
+      rw (hex-digit, is) (set-next s v k left more there other)
+
+-- s printed into l at i, and t into m at j, leave the same room and the same place behind
+abbrev pub Same : List ℕ → ℕ → List ℕ → List ℕ → ℕ → List ℕ → Type 0
+Same l i s m j t = (min (i + length s) (length l) ≡ min (j + length t) (length m)) × (sets l i s ≡ sets m j t)
+
+pub same-trans : (l m n s t u : List ℕ) (i j k : ℕ) → Same l i s m j t → Same m j t n k u → Same l i s n k u
+same-trans l m n s t u i j k a b = (a .0 ∙ b .0, a .1 ∙ b .1)
+
+-- one text behind another
+stores-append : (l : List ℕ) (i : ℕ) (a b : List ℕ) → sets (sets l i a) (i + length a) b ≡ sets l i (a ++ b)
+stores-append l i [] b = let e : i + 0 ≡ i = omega arith in ap (λ (x : ℕ). sets l x b) e
+stores-append l i (y ∷ a) b =
+    let e : i + suc (length a) ≡ suc i + length a = omega arith in
+    ap (λ (x : ℕ). sets (sets (set l i y) (suc i) a) x b) e ∙ stores-append (set l i y) (suc i) a b
+
+pub prints-then : (room a mid b : List ℕ) (i q : ℕ) → Prints room i a mid q → Same mid q b room i (a ++ b)
+prints-then room a mid b i q p =
+    let place : q ≡ min (i + length a) (length room) = p .0 in
+    let size : length mid ≡ length room = ap length (p .1) ∙ length-sets room i a in
+    let both : length (a ++ b) ≡ length a + length b = length-append a b in
+    let joined : sets mid (i + length a) b ≡ sets room i (a ++ b) = rw (p .1) (stores-append room i a b) in (
+      omega arith,
+      elim (decLt (length room) (i + length a)) [
+        | yes h ↦ stores-past mid q b (omega arith) ∙ sym (stores-past mid (i + length a) b (omega arith)) ∙ joined
+        | no h ↦ ap (λ (x : ℕ). sets mid x b) (omega arith) ∙ joined
+      ],
+    )
+
+pub row-next : (out mid after row : List ℕ) (mark i q r k : ℕ) → k < length row → Prints out i (mark ∷ []) mid q
+    → Prints mid q (decimalText (getD row k 0)) after r → Same after r (rowText mark (drop (k + 1) row)) out i (rowText mark (drop k row))
+unfolding rowText
+row-next out mid after row mark i q r k h first second =
+    let rest : List ℕ = rowText mark (drop (suc k) row) in
+    let digits : List ℕ = decimalText (getD row k 0) in
+    rw (add-one k, drop-cons row k 0 h)
+    (same-trans after mid out rest (digits ++ rest) (mark ∷ (digits ++ rest)) r q i
+    (prints-then mid digits after rest q r second)
+    (prints-then out (mark ∷ []) mid (digits ++ rest) i q first))
+
+pub row-begins : (room mid t : List ℕ) (i q : ℕ) → Prints room i [] mid q → Same mid q t mid i t
+row-begins room mid t i q p =
+    let e : mid ≡ room = p .1 in
+    let s = prints-then room [] mid t i q p in
+    (omega (arith, ap length e), s .1 ∙ ap (λ (l : List ℕ). sets l i t) (sym e))
+
+pub row-ends : (room first out row : List ℕ) (mark i j k r : ℕ) → Prints room i [] first r → length row ≤ k → j ≤ length out
+    → Same out j (rowText mark (drop k row)) first i (rowText mark row) → Prints room i (rowText mark row) out j
+unfolding rowText
+row-ends room first out row mark i j k r p h within same =
+    let e : first ≡ room = p .1 in
+    let done : Same out j (rowText mark []) room i (rowText mark row) = rw (drop-of-length-le row h, e) at same in
+    (omega (arith, done .0), done .1)
+
+-- whether a byte stands at k: what each test of it says
+module _ (s : List ℕ) (k : ℕ) where
+  pub byte-short : length s < k + 2 → hasByte s k ≡ false
+  unfolding hasByte
+  byte-short h = rw (lt-leb (k + 2) (length s) h)
+
+  pub byte-high : (d : ℕ) → k + 2 ≤ length s → d ≡ digitOf (getD s k 0) → d ≡ 16 → hasByte s k ≡ false
+  unfolding hasByte
+  byte-high d h is e = rw (le-leb (k + 2) (length s) h, ← is, e)
+
+  pub byte-low : (d e : ℕ) → k + 2 ≤ length s → d ≡ digitOf (getD s k 0) → d < 16 → e ≡ digitOf (getD s (k + 1) 0) → e ≡ 16 → hasByte s k ≡ false
+  unfolding hasByte
+  byte-low d e h is a js b = rw (le-leb (k + 2) (length s) h, ← is, lt-ltb d 16 a, ← js, b)
+
+  pub byte-whole : (d e : ℕ) → k + 2 ≤ length s → d ≡ digitOf (getD s k 0) → d < 16 → e ≡ digitOf (getD s (k + 1) 0) → e < 16 → hasByte s k ≡ true
+  unfolding hasByte
+  byte-whole d e h is a js b = rw (le-leb (k + 2) (length s) h, ← is, lt-ltb d 16 a, ← js, lt-ltb e 16 b)
+
+  -- what is returned of it
+  pub byte-none : hasByte s k ≡ false → (k ≡ cond (hasByte s k) (k + 2) k) × (0 ≡ cond (hasByte s k) (byteAt s k) 0)
+  byte-none e = (rw e, rw e)
+
+  pub byte-some : (d e : ℕ) → d ≡ digitOf (getD s k 0) → e ≡ digitOf (getD s (k + 1) 0) → hasByte s k ≡ true
+      → (k + 2 ≡ cond (hasByte s k) (k + 2) k) × (d * 16 + e ≡ cond (hasByte s k) (byteAt s k) 0)
+  unfolding byteAt
+  byte-some d e is js b = (rw b, rw (b, is, js))
+
+-- what the place behind says of whether a byte was there
+moved : (b : Bool) (k j : ℕ) → j ≡ cond b (k + 2) k → (j ≡ k → ⊥) → b ≡ true
+moved true k j e h = refl
+moved false k j e h = absurd (h e)
+
+stayed : (b : Bool) (k j : ℕ) → j ≡ cond b (k + 2) k → j ≡ k → b ≡ false
+stayed true k j e h = absurd (omega arith)
+stayed false k j e h = refl
+
+bytes-next : (n : ℕ) (s : List ℕ) (k : ℕ) → 0 < n → hasByte s k ≡ true → bytesFrom n s k ≡ byteAt s k ∷ bytesFrom (n - 1) s (k + 2)
+unfolding bytesFrom
+bytes-next zero s k p e = absurd (omega arith)
+bytes-next (suc n) s k p e = let q : suc n - 1 ≡ n = omega arith in rw (e, q)
+
+pub bytes-full : (n : ℕ) (s : List ℕ) (k : ℕ) → n ≤ 0 → bytesFrom n s k ≡ []
+unfolding bytesFrom
+bytes-full zero s k h = refl
+bytes-full (suc n) s k h = absurd (omega arith)
+
+pub bytes-stop : (n : ℕ) (s : List ℕ) (k j : ℕ) → j ≡ cond (hasByte s k) (k + 2) k → j ≡ k → bytesFrom n s k ≡ []
+unfolding bytesFrom
+bytes-stop zero s k j e h = refl
+bytes-stop (suc n) s k j e h = rw (stayed (hasByte s k) k j e h)
+
+-- before the first byte all of them are left
+pub word-begins : (into s : List ℕ) (k : ℕ) → (0 + length (bytesFrom (length into - 0) s k) ≡ length (bytesFrom (length into) s k)) × (sets into 0 (bytesFrom (length into - 0) s k) ≡ sets into 0 (bytesFrom (length into) s k))
+word-begins into s k = let e : length into - 0 ≡ length into = omega arith in (rw e (omega arith), rw e)
+
+-- a byte v that is stored at `len`, with j the place behind it
+module _ (into s : List ℕ) (k len v j : ℕ) (fits : len < length into) (place : j ≡ cond (hasByte s k) (k + 2) k) (byte : v ≡ cond (hasByte s k) (byteAt s k) 0) (goes : j ≡ k → ⊥) where
+  there : hasByte s k ≡ true
+  there = moved (hasByte s k) k j place goes
+
+  pub word-place : j ≡ k + 2
+  word-place = rw there at place
+
+  is-byte : v ≡ byteAt s k
+  is-byte = rw there at byte
+
+  here : bytesFrom (length into - len) s k ≡ byteAt s k ∷ bytesFrom (length into - len - 1) s (k + 2)
+  here = bytes-next (length into - len) s k (omega arith) there
+
+  rest : bytesFrom (length (set into len v) - (len + 1)) s j ≡ bytesFrom (length into - len - 1) s (k + 2)
+  rest =
+      let size : length (set into len v) - (len + 1) ≡ length into - len - 1 = omega (arith, length-set into len v) in
+      rw (size, word-place)
+
+  pub word-count : len + 1 + length (bytesFrom (length (set into len v) - (len + 1)) s j) ≡ len + length (bytesFrom (length into - len) s k)
+  word-count = omega (arith, ap length here, ap length rest)
+
+  pub word-store : sets (set into len v) (len + 1) (bytesFrom (length (set into len v) - (len + 1)) s j) ≡ sets into len (bytesFrom (length into - len) s k)
+  word-store = rw (here, rest, is-byte, add-one len)
+
+-- what is returned
+module _ (s into : List ℕ) (c dash : Cursor) (is : dash ≡ skipped s c (45 ∷ [])) where
+  pub word-dash : (d : ℕ) → dash ≡ At d → ReadsWord s c into into (record { len = 0; next = dash })
+  unfolding wordAt wordBytes
+  word-dash d e = (rw (← is, e), rw (← is, e))
+
+  pub word-lost : dash ≡ Lost → c ≡ Lost → ReadsWord s c into into (record { len = 0; next = Lost })
+  unfolding wordAt wordBytes
+  word-lost e q = (rw (← is, e, q), rw (← is, e, q))
+
+  module _ (k len at : ℕ) (after rest : List ℕ) (e : dash ≡ Lost) (q : c ≡ At k) (place : at ≡ k + 2 * len) (none : rest ≡ []) (count : len + length rest ≡ length (bytesFrom (length into) s k)) (stored : sets after len rest ≡ sets into 0 (bytesFrom (length into) s k)) where
+    whole : length (bytesFrom (length into) s k) ≡ len
+    whole = omega (arith, ap length none)
+
+    left : after ≡ sets into 0 (bytesFrom (length into) s k)
+    left = rw none at stored
+
+    pub word-none : len ≡ 0 → ReadsWord s c into after (record { len = len; next = Lost })
+    unfolding wordAt wordBytes
+    word-none z = (rw (← is, e, q, whole, eq-eqb len 0 z), rw (← is, e, q) left)
+
+    pub word-some : (len ≡ 0 → ⊥) → ReadsWord s c into after (record { len = len; next = At at })
+    unfolding wordAt wordBytes
+    word-some z = (rw (← is, e, q, whole, ne-eqb len 0 z, place), rw (← is, e, q) left)
