@@ -1,13 +1,18 @@
 //! A program that answers case lines, against the oracle's own answers.
 
+use harness::case::Case;
 use harness::exhaustive;
 use harness::failure::{brief, Failure};
 use harness::judge;
 use harness::line;
 use harness::list;
 use harness::words::Dice;
+use std::cell::Cell;
 use std::io::{self, Write};
 use std::process::{Command, Stdio};
+
+/// How often the program is run to make a line smaller.
+const TRIES: usize = 3_000;
 
 const SHORT_RUN: usize = 250;
 const LONG_RUN: usize = 2_000;
@@ -75,7 +80,14 @@ fn agree(asked: &[u8], given: Option<&[u8]>) -> Result<(), String> {
 
 /// The line made smaller, if it is a case that has a wrong answer by itself too.
 fn smallest(program: &str, asked: &[u8], why: String) -> String {
-    let alone = |case: &_| held_alone(program, line::show_case(case).as_bytes());
+    let tries = Cell::new(0);
+    let alone = |case: &Case| {
+        tries.set(tries.get() + 1);
+        if tries.get() > TRIES {
+            return Ok(());
+        }
+        held_alone(program, line::show_case(case).as_bytes())
+    };
     match line::parse(asked) {
         Some(case) if alone(&case).is_err() => Failure::new(case, why).smallest(alone).shown(),
         _ => format!("{} | {why}", shown(asked)),
