@@ -57,7 +57,7 @@ impl Call {
 
 /// What one such call gives back.
 #[derive(Clone, Copy, Debug, PartialEq, Eq)]
-pub struct Turn {
+pub struct Called {
     pub answer: Answer,
     pub state: State,
     pub counts: Counts,
@@ -79,8 +79,8 @@ pub enum Reply {
     ReverseSuffix { start: usize, rounds: u64 },
     Prepared { state: State, preparing: u64 },
     Found { position: Option<usize>, counts: Counts },
-    Called(Turn),
-    Walked { preparing: u64, turns: Vec<(Answer, Counts)>, state: State },
+    Called(Called),
+    Walked { preparing: u64, calls: Vec<(Answer, Counts)>, state: State },
     Refused(u8),
 }
 
@@ -91,10 +91,10 @@ impl Reply {
             Reply::Suffix { rounds, .. } | Reply::ReverseSuffix { rounds, .. } => *rounds = 0,
             Reply::Prepared { preparing, .. } => *preparing = 0,
             Reply::Found { counts, .. } => *counts = Counts::default(),
-            Reply::Called(turn) => turn.counts = Counts::default(),
-            Reply::Walked { preparing, turns, .. } => {
+            Reply::Called(called) => called.counts = Counts::default(),
+            Reply::Walked { preparing, calls, .. } => {
                 *preparing = 0;
-                turns.iter_mut().for_each(|turn| turn.1 = Counts::default());
+                calls.iter_mut().for_each(|called| called.1 = Counts::default());
             }
             Reply::Refused(_) => {}
         }

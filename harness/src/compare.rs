@@ -4,7 +4,6 @@ use crate::case::*;
 use crate::examples;
 use crate::failure::{Failure, Outcome};
 use crate::judge::judge;
-use crate::line;
 use crate::meaning;
 use crate::model::{Model, NEEDLE_BOUND, RULES};
 use crate::naive;
@@ -74,15 +73,9 @@ impl Run<'_> {
         self.pairs((b"ab", size.needle), (b"ab", size.haystack))?;
         // A third letter lets the fingerprint say no; the others let it say yes falsely.
         self.pairs((b"ab", 4), (b"abc", 7))?;
-        self.pairs((&[0x01, 0x02], 4), (&[0x01, 0x02, 0x41], 7))?;
+        self.pairs(words::ALIKE.0, words::ALIKE.1)?;
         self.handed_in(size.state_needle)?;
-        for _ in 0..size.seeded {
-            self.seeded(dice, 40, 150)?;
-        }
-        for _ in 0..size.large {
-            self.seeded(dice, 3000, 20_000)?;
-        }
-        Ok(())
+        words::sizes(size.seeded, size.large).try_for_each(|(m, n)| self.seeded(dice, m, n))
     }
 
     /// The part that `oracle break` runs on wrong models.
@@ -105,18 +98,11 @@ impl Run<'_> {
     }
 
     fn examples(&mut self) -> Outcome {
-        for (text, wanted) in examples::TABLE {
-            let case = line::parse(text.as_bytes()).expect("the table's lines are well formed");
-            self.example(case, wanted)?;
-        }
-        Ok(())
+        examples::table().try_for_each(|(case, wanted)| self.example(case, wanted))
     }
 
     fn bounds(&mut self) -> Outcome {
-        for (case, wanted) in examples::BOUNDS {
-            self.example(case(), wanted)?;
-        }
-        Ok(())
+        examples::bounds().try_for_each(|(case, wanted)| self.example(case, wanted))
     }
 
     fn suffixes(&mut self, letters: &[u8], longest: usize) -> Outcome {
@@ -217,10 +203,10 @@ impl Run<'_> {
         let mut state = first;
         // A step that is not Done moves by a byte at least.
         for _ in 0..haystack.len() {
-            let turn = self.model.call(call, needle, haystack, state);
-            total.comparisons += turn.counts.comparisons;
-            total.tests += turn.counts.tests;
-            state = turn.state;
+            let called = self.model.call(call, needle, haystack, state);
+            total.comparisons += called.counts.comparisons;
+            total.tests += called.counts.tests;
+            state = called.state;
         }
         if meaning::within(&total, needle.len(), meaning::left(call, &first)) {
             return Ok(());

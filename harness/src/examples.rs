@@ -12,7 +12,7 @@ type Built = (fn() -> Case, &'static str);
 
 /// The case's line, and its answer as far as the documents give it: a field that ends in `*`
 /// may go on in any way.
-pub const TABLE: &[(&str, &str)] = &[
+const TABLE: &[(&str, &str)] = &[
     // P1 to P3: "aab", "gcagagag", "banana"
     ("msuf 616162 0", "ok 2 1 *"),
     ("msuf 616162 1", "ok 0 3 *"),
@@ -65,7 +65,7 @@ pub const TABLE: &[(&str, &str)] = &[
 ];
 
 /// The bounds themselves. Built one by one, since a haystack at its bound takes 64 MiB.
-pub const BOUNDS: &[Built] = &[
+const BOUNDS: &[Built] = &[
     (|| search(NEEDLE_BOUND, NEEDLE_BOUND + 5, false), "at:5 * * *"),
     (|| search(NEEDLE_BOUND, NEEDLE_BOUND + 5, true), "at:0 * * *"),
     (|| search(NEEDLE_BOUND + 1, NEEDLE_BOUND + 5, false), "ref:2"),
@@ -92,6 +92,24 @@ pub const BOUNDS: &[Built] = &[
     (|| step(NEEDLE_BOUND, 3, 4), "ref:4 S:65536:3:4:3:* 0 0"),
     (|| step(NEEDLE_BOUND + 1, 3, 4), "ref:2 S:65537:3:4:3:* 0 0"),
 ];
+
+/// The table's lines.
+pub fn lines() -> impl Iterator<Item = &'static str> {
+    TABLE.iter().map(|example| example.0)
+}
+
+/// The table's cases and their answers.
+pub fn table() -> impl Iterator<Item = (Case, &'static str)> {
+    TABLE.iter().map(|(text, wanted)| {
+        let case = line::parse(text.as_bytes()).expect("the table's lines are well formed");
+        (case, *wanted)
+    })
+}
+
+/// The cases at the bounds and their answers.
+pub fn bounds() -> impl Iterator<Item = (Case, &'static str)> {
+    BOUNDS.iter().map(|(case, wanted)| (case(), *wanted))
+}
 
 fn ones(len: usize) -> Word {
     vec![1; len]

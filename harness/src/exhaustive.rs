@@ -16,8 +16,11 @@ fn suffixes() -> impl Iterator<Item = Case> {
         let both = [false, true].into_iter();
         both.flat_map(|greater| {
             let forward = Case::Suffix { word: word.clone(), greater };
-            let known = (0..=word.len() + 1)
-                .map(|known| Case::ReverseSuffix { word: word.clone(), known, greater });
+            let known = (0..=word.len() + 1).map(|known| Case::ReverseSuffix {
+                word: word.clone(),
+                known,
+                greater,
+            });
             std::iter::once(forward).chain(known).collect::<Vec<_>>()
         })
         .collect::<Vec<_>>()
@@ -51,24 +54,26 @@ fn walks() -> impl Iterator<Item = Case> {
 /// Every call from every fitting state, and from each with one number changed, for needles of
 /// 1 to 3 letters in haystacks of up to 4.
 fn handed_in() -> impl Iterator<Item = Case> {
-    words::pairs((AB, 3), (AB, 4)).filter(|pair| !pair.0.is_empty()).flat_map(|(needle, haystack)| {
-        // a's bit and b's bit
-        let fitting = states::all_fitting(needle.len(), haystack.len(), 6 << 32);
-        fitting
-            .flat_map(|state| {
-                let changed = states::with_one_change(&state);
-                // Changed ones of a few states are enough: they differ in the number changed.
-                let some = state.position == 0 && state.end == state.n;
-                std::iter::once(state).chain(changed.into_iter().filter(move |_| some))
-            })
-            .flat_map(|state| {
-                Call::ALL.map(|call| {
-                    let (needle, haystack) = (needle.clone(), haystack.clone());
-                    Case::Call { call, needle, haystack, state }
+    words::pairs((AB, 3), (AB, 4)).filter(|pair| !pair.0.is_empty()).flat_map(
+        |(needle, haystack)| {
+            // a's bit and b's bit
+            let fitting = states::all_fitting(needle.len(), haystack.len(), 6 << 32);
+            fitting
+                .flat_map(|state| {
+                    let changed = states::with_one_change(&state);
+                    // Changed ones of a few states are enough: they differ in the number changed.
+                    let some = state.position == 0 && state.end == state.n;
+                    std::iter::once(state).chain(changed.into_iter().filter(move |_| some))
                 })
-            })
-            .collect::<Vec<_>>()
-    })
+                .flat_map(|state| {
+                    Call::ALL.map(|call| {
+                        let (needle, haystack) = (needle.clone(), haystack.clone());
+                        Case::Call { call, needle, haystack, state }
+                    })
+                })
+                .collect::<Vec<_>>()
+        },
+    )
 }
 
 pub fn cases() -> impl Iterator<Item = Case> {

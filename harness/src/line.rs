@@ -1,10 +1,16 @@
-//! Cases and replies as lines of text. The form is written down at the top of oracle.rs.
+//! Cases and replies as lines of text. The forms stand in docs/LINES.md.
 
 use crate::case::*;
 use std::fmt::Write;
 
-/// None for a malformed line.
+/// The most that a line may ask for. A line of more than so many bytes asks for more than these.
+pub const WORD_BYTES: usize = 4096;
+pub const SCRIPT_LETTERS: usize = 256;
+
+/// A line without its newline; one carriage return at its end is let pass. None for a malformed
+/// line, and for one that asks for too much.
 pub fn parse(line: &[u8]) -> Option<Case> {
+    let line = line.strip_suffix(b"\r").unwrap_or(line);
     let fields: Vec<&[u8]> = line.split(|&byte| byte == b' ').collect();
     Some(match fields[..] {
         [b"msuf", text, order] => {
@@ -55,8 +61,11 @@ fn call_letter(call: Call) -> u8 {
 }
 
 fn parse_script(text: &[u8]) -> Option<Vec<Call>> {
+    if !(1..=SCRIPT_LETTERS).contains(&text.len()) {
+        return None;
+    }
     let call = |&letter| Call::ALL.into_iter().find(|&call| call_letter(call) == letter);
-    text.iter().map(call).collect::<Option<Vec<Call>>>().filter(|script| !script.is_empty())
+    text.iter().map(call).collect()
 }
 
 fn parse_order(text: &[u8]) -> Option<bool> {
@@ -79,7 +88,7 @@ fn parse_word(text: &[u8]) -> Option<Word> {
     if text == b"-" {
         return Some(Word::new());
     }
-    if text.is_empty() || text.len() % 2 == 1 {
+    if !(1..=2 * WORD_BYTES).contains(&text.len()) || text.len() % 2 == 1 {
         return None;
     }
     text.chunks(2).map(|pair| Some(hex_digit(pair[0])? * 16 + hex_digit(pair[1])?)).collect()
@@ -184,19 +193,19 @@ pub fn show_reply(reply: &Reply) -> String {
             let place = position.map_or("none".to_string(), |place| format!("at:{place}"));
             format!("{place} {} {} {}", counts.preparing, counts.comparisons, counts.tests)
         }
-        Reply::Called(Turn { answer, state, counts }) => {
+        Reply::Called(Called { answer, state, counts }) => {
             let (answer, state) = (show_answer(answer), show_state(state));
             format!("{answer} {state} {} {}", counts.comparisons, counts.tests)
         }
-        Reply::Walked { preparing, turns, state } => {
-            let turns: String = turns.iter().map(show_turn).collect();
-            format!("ok {preparing} {turns}{}", show_state(state))
+        Reply::Walked { preparing, calls, state } => {
+            let calls: String = calls.iter().map(show_called).collect();
+            format!("ok {preparing} {calls}{}", show_state(state))
         }
         Reply::Refused(number) => format!("ref:{number}"),
     }
 }
 
 /// With the space that parts it from what follows.
-fn show_turn((answer, counts): &(Answer, Counts)) -> String {
+fn show_called((answer, counts): &(Answer, Counts)) -> String {
     format!("{}/{}/{} ", show_answer(answer), counts.comparisons, counts.tests)
 }

@@ -138,6 +138,16 @@ const ODD: &[&str] = &[
     "nextb 61 6161 S:1:2:18446744073709551615:2:0:1:1:ffffffffffffffff:0:1",
 ];
 
+/// One carriage return at the end of a line is let pass: no second one, and none before it.
+const RETURNS: &[&str] = &[
+    "find 4142 787841427878784142\r",
+    "walk 6e616e61 62616e616e61 fff\r",
+    "find 61 6161\r\r",
+    "find 61\r 6161",
+    "find 61 6161 \r",
+    "\r",
+];
+
 struct List {
     lines: Vec<String>,
     seen: HashSet<String>,
@@ -146,7 +156,7 @@ struct List {
 
 pub fn lines() -> Vec<String> {
     let mut list = List::new(SEED);
-    list.texts(examples::TABLE.iter().map(|example| example.0));
+    list.texts(examples::lines());
     list.source_tests();
     list.tiny();
     list.seeded();
@@ -156,6 +166,8 @@ pub fn lines() -> Vec<String> {
     list.broken(&[(b"aabaab", b"aabaabxaa"), (b"baabb", b"baabbbaabc")]);
     list.texts(ODD.iter().copied());
     list.texts(MALFORMED.iter().copied());
+    list.limits();
+    list.texts(RETURNS.iter().copied());
     list.lines
 }
 
@@ -307,6 +319,28 @@ impl List {
         let letters = ALPHABETS[2];
         let needle = words::random(&mut self.dice, letters, 4096);
         self.case(Case::Prepare { needle, n: 67_108_864 });
+    }
+
+    /// At each limit of a line, and one past it. The last walks are over words at theirs, so that
+    /// no line that is answered is longer than the first of them; behind that one carriage return
+    /// is let pass.
+    fn limits(&mut self) {
+        let script = |letters| Call::ALL.into_iter().cycle().take(letters).collect::<Vec<_>>();
+        let (at, past) = (script(line::SCRIPT_LETTERS), script(line::SCRIPT_LETTERS + 1));
+        let runs = words::power(b"aabx", 900);
+        self.walk(b"ab", &runs, at.clone());
+        self.walk(b"ab", &runs, past.clone());
+        for bytes in [line::WORD_BYTES, line::WORD_BYTES + 1] {
+            let word = words::thue_morse(*b"ab", bytes);
+            self.searches(&word, b"ab");
+            self.searches(&word[bytes - 9..], &word);
+        }
+        let long = words::fibonacci(*b"ab", line::WORD_BYTES);
+        self.walk(&long, &long, at);
+        let longest = self.lines.last().cloned().unwrap_or_default();
+        self.walk(&long, &long, past);
+        self.text(longest.clone() + "\r");
+        self.text(longest + "\r\r");
     }
 
     /// Fitting states that belong to no needle in particular.

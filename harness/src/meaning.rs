@@ -25,13 +25,13 @@ pub fn check(case: &Case, reply: &Reply) -> Result<(), String> {
         (Case::Search { needle, haystack, backward }, Reply::Found { position, counts }) => {
             found(needle, haystack, *backward, *position, counts)
         }
-        (Case::Call { call, needle, state, .. }, Reply::Called(turn)) => {
-            let refused = matches!(turn.answer, Answer::Refused(_));
-            let holds = refused || within(&turn.counts, needle.len(), left(*call, state));
+        (Case::Call { call, needle, state, .. }, Reply::Called(called)) => {
+            let refused = matches!(called.answer, Answer::Refused(_));
+            let holds = refused || within(&called.counts, needle.len(), left(*call, state));
             ensure(holds, TOO_MANY)
         }
-        (Case::Walk { needle, haystack, script }, Reply::Walked { turns, .. }) => {
-            walked(needle, haystack, script, turns)
+        (Case::Walk { needle, haystack, script }, Reply::Walked { calls, .. }) => {
+            walked(needle, haystack, script, calls)
         }
         (_, Reply::Refused(_)) => Ok(()),
         _ => Err("a reply to another question".to_string()),
@@ -96,11 +96,11 @@ fn walked(
     needle: &[u8],
     haystack: &[u8],
     script: &[Call],
-    turns: &[(Answer, Counts)],
+    calls: &[(Answer, Counts)],
 ) -> Result<(), String> {
     let n = haystack.len();
     let (mut forward, mut backward) = (Vec::new(), Vec::new());
-    for (&call, &(answer, counts)) in script.iter().zip(turns) {
+    for (&call, &(answer, counts)) in script.iter().zip(calls) {
         match call {
             Call::Step => forward.push((true, answer, counts)),
             Call::Next => forward.push((false, answer, counts)),

@@ -79,8 +79,8 @@ pub fn fits(state: &State, m: usize, n: usize) -> bool {
 }
 
 /// "the number, counts 0, no position"
-fn refused(number: u8, state: State) -> Turn {
-    Turn { answer: Answer::Refused(number), state, counts: Counts::default() }
+fn refused(number: u8, state: State) -> Called {
+    Called { answer: Answer::Refused(number), state, counts: Counts::default() }
 }
 
 impl Model {
@@ -252,7 +252,7 @@ impl Model {
     }
 
     /// One call that takes a state.
-    pub fn call(&self, call: Call, needle: &[u8], haystack: &[u8], state: State) -> Turn {
+    pub fn call(&self, call: Call, needle: &[u8], haystack: &[u8], state: State) -> Called {
         let (m, n) = (needle.len(), haystack.len());
         if let Some(number) = self.refusal(&Asked { m, n, walking: true, state: Some(&state) }) {
             return refused(number, state);
@@ -264,7 +264,7 @@ impl Model {
             Call::Next => self.forward(&mut walk, false),
             Call::NextBack => self.backward(&mut walk, false),
         };
-        Turn { answer, state: walk.state, counts: walk.counts }
+        Called { answer, state: walk.state, counts: walk.counts }
     }
 
     /// `stepping` is false for next match: "the same without Done and without the middle
@@ -444,12 +444,12 @@ impl Model {
         }
         let (state, preparing) = self.prepare(needle, n);
         let call = if backward { Call::NextBack } else { Call::Next };
-        let turn = self.call(call, needle, haystack, state);
-        let position = match turn.answer {
+        let called = self.call(call, needle, haystack, state);
+        let position = match called.answer {
             Answer::Match(start, _) => Some(start),
             _ => None,
         };
-        Reply::Found { position, counts: Counts { preparing, ..turn.counts } }
+        Reply::Found { position, counts: Counts { preparing, ..called.counts } }
     }
 
     /// "the scan compares up to and including the hit, or all n bytes if there is none"
@@ -472,12 +472,12 @@ impl Model {
     /// Preparing, then the calls of the script, each with the state of the one before.
     fn walk(&self, needle: &[u8], haystack: &[u8], script: &[Call]) -> Reply {
         let (mut state, preparing) = self.prepare(needle, haystack.len());
-        let mut turns = Vec::with_capacity(script.len());
+        let mut calls = Vec::with_capacity(script.len());
         for &call in script {
-            let turn = self.call(call, needle, haystack, state);
-            turns.push((turn.answer, turn.counts));
-            state = turn.state;
+            let called = self.call(call, needle, haystack, state);
+            calls.push((called.answer, called.counts));
+            state = called.state;
         }
-        Reply::Walked { preparing, turns, state }
+        Reply::Walked { preparing, calls, state }
     }
 }

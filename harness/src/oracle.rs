@@ -5,38 +5,7 @@
 //!     oracle compare [--seed S] [--long]    model, Rust and meaning against each other
 //!     oracle break                      shows that wrong models are caught
 //!
-//! # The lines
-//!
-//! A line ends at a newline (0A hex) or at the end of the input; behind the last newline an
-//! empty rest is no line. Fields are parted by exactly one space (20 hex). A line that is not
-//! of one of these forms, to the byte, is malformed, also an empty one; it is answered by
-//! `bad line` and reading goes on. Only a line that is well formed can be refused.
-//!
-//!     msuf WORD ORDER                ok START PERIOD ROUNDS | ref:N
-//!     rmsuf WORD KNOWN ORDER         ok START ROUNDS | ref:N
-//!     prep NEEDLE N                  ok STATE PREPARING | ref:N
-//!     find NEEDLE HAYSTACK           at:P PREPARING COMPARISONS TESTS
-//!                                    | none PREPARING COMPARISONS TESTS | ref:N
-//!     rfind NEEDLE HAYSTACK          the same
-//!     step NEEDLE HAYSTACK STATE     ANSWER STATE COMPARISONS TESTS
-//!     stepb NEEDLE HAYSTACK STATE    the same
-//!     next NEEDLE HAYSTACK STATE     the same
-//!     nextb NEEDLE HAYSTACK STATE    the same
-//!     walk NEEDLE HAYSTACK SCRIPT    ok PREPARING ANSWER/COMPARISONS/TESTS .. STATE | ref:N
-//!
-//! - WORD, NEEDLE, HAYSTACK: `-` for the empty word, else its bytes as two hex digits each,
-//!   digits 0 to 9 and a to f (no capitals), an even number of them and at least two.
-//! - ORDER: the one digit 0 or 1; 1 is `order_greater` true.
-//! - KNOWN, N and the numbers in STATE: 1 to 20 decimal digits with a value below 2^64.
-//!   Leading zeros are allowed; what is printed has none.
-//! - STATE: `L:m:n:position:end:c:b:p:SET` or
-//!   `S:m:n:position:end:c:b:p:SET:FORWARD:BACKWARD`, parted by single colons. SET is exactly
-//!   16 hex digits (no capitals), the byteset with its highest bit first.
-//! - SCRIPT: one or more letters, each a call with the state of the one before, the first with
-//!   the prepared one: f step, b step back, F next match, B next match back. The answers
-//!   follow in the script's order, then the last state.
-//! - ANSWER: `match:A:B`, `reject:A:B`, `done`, `none` or `ref:N`. A refused step, stepb, next
-//!   or nextb prints `ref:N`, the state that was handed in, `0 0`.
+//! The forms of the lines and of the answers stand in docs/LINES.md.
 //!
 //! Answers are the Rust's and the model's, which must be equal; counts are the model's and
 //! those of a copy of the Rust with counters in it; refusals are the model's alone. Where they

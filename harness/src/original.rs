@@ -60,9 +60,9 @@ fn called(call: Call, fields: &mut probe::Fields, needle: &[u8], haystack: &[u8]
 fn walked(needle: &[u8], haystack: &[u8], script: &[Call]) -> Reply {
     let mut fields = probe::Fields::prepare(needle, haystack.len());
     let preparing = counts().preparing;
-    let turn = |&call: &Call| (called(call, &mut fields, needle, haystack), counts());
-    let turns = script.iter().map(turn).collect();
-    Reply::Walked { preparing, turns, state: state(needle.len(), haystack.len(), &fields) }
+    let one = |&call: &Call| (called(call, &mut fields, needle, haystack), counts());
+    let calls = script.iter().map(one).collect();
+    Reply::Walked { preparing, calls, state: state(needle.len(), haystack.len(), &fields) }
 }
 
 /// Only for cases that 01 does not refuse: the Rust has no refusals.
@@ -89,7 +89,7 @@ pub fn reply(case: &Case) -> Reply {
             let mut fields = fields(before);
             let answer = called(*call, &mut fields, needle, haystack);
             let state = state(needle.len(), haystack.len(), &fields);
-            Reply::Called(Turn { answer, state, counts: counts() })
+            Reply::Called(Called { answer, state, counts: counts() })
         }
         Case::Walk { needle, haystack, script } => walked(needle, haystack, script),
     }

@@ -16,9 +16,9 @@ pub fn whole(needle: &[u8], haystack: &[u8], round: &[Call]) -> Vec<Call> {
     for _ in 0..=haystack.len() {
         let mut over = true;
         for &call in round {
-            let turn = RULES.call(call, needle, haystack, state);
-            over &= matches!(turn.answer, Answer::Done | Answer::None);
-            state = turn.state;
+            let called = RULES.call(call, needle, haystack, state);
+            over &= matches!(called.answer, Answer::Done | Answer::None);
+            state = called.state;
         }
         script.extend(round);
         if over {

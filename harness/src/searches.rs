@@ -4,7 +4,6 @@
 use harness::case::{Case, Word};
 use harness::examples;
 use harness::failure::{Failure, Outcome};
-use harness::line;
 use harness::model::{NEEDLE_BOUND, RULES};
 use harness::naive;
 use harness::words::{self, Dice, ALPHABETS};
@@ -48,7 +47,9 @@ pub fn differ(seed: u64, long: bool) -> Result<String, String> {
     let outcome = run.all(&size, &mut Dice::new(seed));
     let outcome = outcome.map_err(|failure| failure.smallest(verdict));
     // Too large to be made smaller step by step.
-    let outcome = outcome.and_then(|()| run.hard()).and_then(|()| run.bounds());
+    let outcome = outcome.and_then(|()| run.hard());
+    let outcome = outcome
+        .and_then(|()| examples::bounds().try_for_each(|(case, said)| run.example(case, said)));
     outcome.map(|()| format!("{} cases", run.cases)).map_err(|failure| failure.shown())
 }
 
@@ -92,22 +93,18 @@ fn verdict(case: &Case) -> Result<(), String> {
 
 impl Run {
     fn all(&mut self, size: &Size, dice: &mut Dice) -> Outcome {
-        self.examples()?;
+        examples::table().try_for_each(|(case, said)| self.example(case, said))?;
         self.pairs((b"ab", size.two_letters.0), (b"ab", size.two_letters.1))?;
         self.pairs((b"abc", size.three_letters.0), (b"abc", size.three_letters.1))?;
-        // Letters that the fingerprint can't tell apart.
-        self.pairs((&[0x01, 0x02], 4), (&[0x01, 0x02, 0x41], 7))?;
+        self.pairs(words::ALIKE.0, words::ALIKE.1)?;
         self.empty()?;
         for _ in 0..size.edges {
             self.edges(dice)?;
         }
-        for _ in 0..size.seeded {
-            self.seeded(dice, 40, 150)?;
-        }
-        for _ in 0..size.large {
-            self.seeded(dice, 3000, 20_000)?;
-        }
-        Ok(())
+        words::sizes(size.seeded, size.large).try_for_each(|(needle_max, haystack_max)| {
+            let (needle, haystack) = words::pair(dice, needle_max, haystack_max);
+            self.both(&needle, &haystack)
+        })
     }
 
     fn one(&mut self, needle: &[u8], haystack: &[u8], backward: bool, empty: *const u8) -> Outcome {
@@ -128,23 +125,8 @@ impl Run {
             .try_for_each(|(needle, haystack)| self.both(&needle, &haystack))
     }
 
-    /// The searches among the documents' examples.
-    fn examples(&mut self) -> Outcome {
-        for (text, wanted) in examples::TABLE {
-            let case = line::parse(text.as_bytes()).expect("the table's lines are well formed");
-            self.example(case, wanted)?;
-        }
-        Ok(())
-    }
-
-    fn bounds(&mut self) -> Outcome {
-        for (case, wanted) in examples::BOUNDS {
-            self.example(case(), wanted)?;
-        }
-        Ok(())
-    }
-
-    /// Also against what the documents say, whose first word is the place.
+    /// A case of the documents, if it is a search: also against what they say, whose first word
+    /// is the place.
     fn example(&mut self, case: Case, said: &str) -> Outcome {
         let Case::Search { needle, haystack, backward } = &case else {
             return Ok(());
@@ -176,11 +158,6 @@ impl Run {
             }
         }
         Ok(())
-    }
-
-    fn seeded(&mut self, dice: &mut Dice, needle_max: usize, haystack_max: usize) -> Outcome {
-        let (needle, haystack) = words::pair(dice, needle_max, haystack_max);
-        self.both(&needle, &haystack)
     }
 
     /// A needle in texts that are about as long as it is, or about twice as long, and at the

@@ -25,17 +25,21 @@ pub fn differ(program: &str, seed: u64, long: bool) -> Result<String, String> {
     let mut dice = Dice::new(seed);
     let mut lines = held(program, b"")?;
     for _ in 0..batches {
-        let mut input = list::batch(dice.roll()).join(&b'\n');
+        let end: &[u8] = if dice.between(0, 3) > 0 { b"\n" } else { b"\r\n" };
+        let mut input = list::batch(dice.roll()).join(end);
         // The last line may end with the input.
         if dice.between(0, 3) > 0 {
-            input.push(b'\n');
+            input.extend(end);
         }
         lines += held(program, &input)?;
     }
     if long {
         lines += every_small(program)?;
     }
-    Ok(format!("{lines} lines in {batches} batches{}", if long { ", every small case among them" } else { "" }))
+    Ok(format!(
+        "{lines} lines in {batches} batches{}",
+        if long { ", every small case among them" } else { "" }
+    ))
 }
 
 /// Every small case, so many lines at a time.

@@ -42,6 +42,10 @@ const EVERY_BYTE: [u8; 256] = {
 pub const ALPHABETS: [&[u8]; 5] =
     [b"ab", b"abc", &EVERY_BYTE, &[0x01, 0x41], &[0x01, 0x41, 0x02, 0xc1]];
 
+/// Needles and haystacks over letters that the fingerprint can't tell apart, each with its
+/// longest length.
+pub const ALIKE: ((&[u8], usize), (&[u8], usize)) = ((&[0x01, 0x02], 4), (&[0x01, 0x02, 0x41], 7));
+
 /// All words of one length, in order.
 pub fn all(letters: &[u8], len: usize) -> impl Iterator<Item = Word> + '_ {
     let base = letters.len();
@@ -153,4 +157,9 @@ pub fn pair(dice: &mut Dice, needle_max: usize, haystack_max: usize) -> (Word, W
     let needle = structured(dice, letters, m);
     let haystack = around(dice, &needle, letters, n);
     (needle, haystack)
+}
+
+/// The longest needle and haystack of each seeded pair: so many small ones, then so many large.
+pub fn sizes(small: usize, large: usize) -> impl Iterator<Item = (usize, usize)> {
+    std::iter::repeat_n((40, 150), small).chain(std::iter::repeat_n((3000, 20_000), large))
 }

@@ -10,7 +10,7 @@ use native.Mathlib.Nat.{zero-div, div-eq-of-lt, div-self, mul-mod-left, one-mul,
 use native.Mathlib.Numerals.{add-one}
 use native.Mathlib.Omega.{arith}
 use native.Mathlib.Decide.{decLt, ℕ-discrete}
-use lib.Bits.{bitAnd, bitOr, or-shr, or-step, or-lt, and-mask, mask-lt}
+use lib.Bits.{bitAnd, bitOr, or-shr, or-step, and-mask, mask-lt}
 use lib.Pow.{pow-add, pow-pos, pow-lt, shl-shr, shl-exact}
 use lib.Dec.{eqb, lit<}
 use lib.ListN.{length, getD, drop, drop-of-length-le}
@@ -102,32 +102,22 @@ has-decided bytes b = decides-iff (⊎-elim (λ h. absurd (true≢false (sym h �
 pub never-no : (bytes : List ℕ) (i : ℕ) → i < length bytes → has (fingerprint bytes) (getD bytes i 0) ≡ true
 never-no bytes i h = has-decided bytes (getD bytes i 0) .complete (record { place = i; within = h; same = refl })
 
--- ---- 64 bits hold every fingerprint
+-- ---- the ways through the code
 
+-- a bit is below 64
 pub bit-lt : (b : ℕ) → bitOf b < 64
 unfolding bitOf
 bit-lt b = mask-lt b 6
-
-into-lt : (set : ℕ) (bytes : List ℕ) → set < 2 ^ 64 → into set bytes < 2 ^ 64
-unfolding into
-into-lt set [] h = h
-into-lt set (b ∷ bytes) h = into-lt (bitOr (2 ^ bitOf b) set) bytes (or-lt 64 (2 ^ bitOf b) set (pow-lt (bit-lt b)) h)
-
-pub fingerprint-lt : (bytes : List ℕ) → fingerprint bytes < 2 ^ 64
-unfolding fingerprint
-fingerprint-lt bytes = into-lt 0 bytes (pow-pos 64)
-
--- ---- the ways through the code
 
 -- a shift of 1 in 64 bits
 shifted-one : (k : ℕ) → k < 64 → (1 * 2 ^ k) % 2 ^ 64 ≡ 2 ^ k
 shifted-one k h = shl-exact {a = 1} 1 k 64 (lit< tt) (omega arith) ∙ one-mul (2 ^ k)
 
--- a round of byteset_create: the byte at i sets its bit, and the rest of the string then makes of the set what it made before
-pub create-step : (bytes : List ℕ) (set i k : ℕ) → i < length bytes → k ≡ bitOf (getD bytes i 0) → k < 64
+-- a round of byteset_create: the byte x at i sets its bit, and the rest of the string then makes of the set what it made before
+pub create-step : (bytes : List ℕ) (set i x k : ℕ) → i < length bytes → k ≡ bitOf x → x ≡ getD bytes i 0 → k < 64
     → into set (drop i bytes) ≡ fingerprint bytes → into (bitOr ((1 * 2 ^ k) % 2 ^ 64) set) (drop (i + 1) bytes) ≡ fingerprint bytes
 unfolding into
-create-step bytes set i k h e l inv = rw (shifted-one k l, e, add-one) (rw (drop-cons bytes i 0 h) at inv)
+create-step bytes set i x k h e q l inv = rw (shifted-one k l, e, q, add-one) (rw (drop-cons bytes i 0 h) at inv)
 
 -- its end: no byte is left
 pub create-end : (bytes : List ℕ) (set i : ℕ) → length bytes ≤ i → into set (drop i bytes) ≡ fingerprint bytes

@@ -12,6 +12,14 @@ fn bit_of(byte: u8) -> u64
     (byte & 63) as u64
 }
 
+// Reads a byte: the one place of this crate that does.
+fn letter(bytes: &[u8], i: usize) -> u8
+    requires { ⌜ i < length (now bytes) ⌝ }
+    ensures { λ r. ⌜ r ≡ getD (now (bytes .entry)) i 0 ⌝ }
+{
+    bytes[i]
+}
+
 // The bits of all of `bytes`. There are 64 bits for 256 bytes, so bytes share them.
 pub fn byteset_create(bytes: &[u8]) -> u64
     ensures set { λ r. ⌜ r ≡ fingerprint (now (bytes .entry)) ⌝ }
@@ -20,7 +28,7 @@ pub fn byteset_create(bytes: &[u8]) -> u64
     let mut byteset: u64 = 0;
     let mut i = 0;
     while i < bytes.len() {
-        byteset = (1 << bit_of(bytes[i])) | byteset;
+        byteset = (1 << bit_of(letter(bytes, i))) | byteset;
         i += 1;
     }
     byteset

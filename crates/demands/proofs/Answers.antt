@@ -1,17 +1,19 @@
 -- From how a search ends to what the call answers, forward and backward, over words.
 -- Assumes nothing.
-use Prim.Native.Nat.{ℕ, _+_, _-_, _<_, _≤_}
+use Prim.Native.Nat.{ℕ, _+_, _<_}
 use mathlib.Core.Path.{_≡_, refl}
 use native.Mathlib.Omega.{arith}
 use Rattle.words.specs.Word.{Word, mirror}
 use Rattle.words.specs.Choice.{FindsLeast}
-use Rattle.words.specs.Occurs.{OccursFrom, OccursUpTo, turned}
-use Rattle.words.proofs.Mirror.{occurs-mirror, mirror-occurs, least-greatest, none-none}
+use Rattle.words.specs.Occurs.{OccursFrom, OccursBelow, mirrored}
+use Rattle.words.proofs.Mirror.{Facing, occurs-mirror, mirror-occurs, least-greatest, none-none}
 use Rattle.words.proofs.Tests.{least-same, greatest-same}
-use Rattle.walks.specs.Search.{Stop}
-use Rattle.walks.specs.Meaning.{place}
-use Rattle.walks.proofs.Windows.{Skips}
-use Rattle.walks.proofs.Mirror.{TurnedStop}
+use Rattle.windows.specs.declared.Plan.{Plan}
+use Rattle.windows.specs.declared.Stop.{Stop}
+use Rattle.windows.specs.Meaning.{place}
+use Rattle.windows.proofs.Windows.{Skips}
+use Rattle.windows.proofs.Mirror.{MirroredStop}
+use Rattle.search.specs.Calls.{endingOf}
 use Rattle.searcher.specs.declared.Step.{Step}
 use Rattle.searcher.specs.declared.NextMatch.{NextMatch}
 use Rattle.searcher.specs.Walk.{stepAnswer, matchAnswer}
@@ -25,39 +27,42 @@ module _ (x h : Word) where
   abbrev n : ℕ
   n = h .size
 
-  pub answers-least : (a : ℕ) (t : Stop) → FindsLeast (OccursFrom x h a) (place t) → AnswersLeast (OccursFrom x h a) m (matchAnswer m t)
-  answers-least a (Stop.hit k) l = (l, refl)
-  answers-least a Stop.passed none = none
-  answers-least a Stop.out none = none
+  pub answers-least : (a : ℕ) (t : Stop) → FindsLeast (OccursFrom x h a) (place t) → AnswersLeast (OccursFrom x h a) m (matchAnswer (endingOf m t))
+  answers-least a (Stop.Hit k) l = (l, refl)
+  answers-least a Stop.Passed none = none
+  answers-least a Stop.Out none = none
 
-  pub answers-greatest : (e : ℕ) {t t′ : Stop} → e ≤ n → TurnedStop m n t t′ → FindsLeast (OccursFrom (mirror x) (mirror h) (n - e)) (place t′)
-      → AnswersGreatest (OccursUpTo x h e) m (matchAnswer m t)
-  answers-greatest e inside (TurnedStop.hit {k} {k′} q) l =
-      let there : k ≡ turned x h k′ = omega arith in
-      (rw there (least-greatest x h e inside k′ l), refl)
-  answers-greatest e inside TurnedStop.passed none = none-none x h e inside none
-  answers-greatest e inside TurnedStop.out none = none-none x h e inside none
+  -- b and a face each other: what starts below b here starts at a or after it in the mirror
+  pub answers-greatest : (b a : ℕ) {t t′ : Stop} → Facing x h b a → MirroredStop m n t t′ → FindsLeast (OccursFrom (mirror x) (mirror h) a) (place t′)
+      → AnswersGreatest (OccursBelow x h b) m (matchAnswer (endingOf m t))
+  answers-greatest b a facing (MirroredStop.hit {k} {k′} q) l =
+      let there : k ≡ mirrored x h k′ = omega arith in
+      (rw there (least-greatest x h b a facing k′ l), refl)
+  answers-greatest b a facing MirroredStop.passed none = none-none x h b a facing none
+  answers-greatest b a facing MirroredStop.out none = none-none x h b a facing none
 
-  pub step-settles : (a b : ℕ) (t : Stop) → Settled x h a b t → StepMeans x h a b (stepAnswer m a b t)
-  step-settles a b (Stop.hit k) s = let here = s .0 in let there = s .1 in (here, omega arith, refl, rw here (s .2))
-  step-settles a b Stop.passed s = (refl, refl, s .0, s .1)
-  step-settles a b Stop.out s = (refl, refl, s .0, s .1)
+  -- a step's match moves by the needle's size
+  module _ (v : Plan) (whole : v .shift ≡ x .size) where
+    pub step-settles : (a b : ℕ) (t : Stop) → Settled v x h a b t → StepMeans x h a b (stepAnswer (endingOf m t) a b)
+    step-settles a b (Stop.Hit k) s = let here = s .0 in let there = s .1 in (here, omega arith, refl, rw here (s .2))
+    step-settles a b Stop.Passed s = (refl, refl, s .0, s .1)
+    step-settles a b Stop.Out s = (refl, refl, s .0, s .1)
 
-  -- what is settled in the mirror, from e′ up to a′, is settled here, from a up to e
-  module _ (e a e′ a′ : ℕ) (before : e + e′ ≡ n) (after : a + a′ ≡ n) where
-    rejects-back : (e′ < a′) × Skips (mirror x) (mirror h) e′ a′ → StepBackMeans x h e a (Step.Reject a e)
-    rejects-back s =
-        let less = s .0 in
-        (refl, refl, omega arith, λ j lo hi o. s .1 (turned x h j) (omega arith) (let fits = o .fits in omega arith) (occurs-mirror x h j o))
+    -- what is settled in the mirror, from e′ up to a′, is settled here, from a up to e
+    module _ (e a e′ a′ : ℕ) (before : e + e′ ≡ n) (after : a + a′ ≡ n) where
+      rejects-back : (e′ < a′) × Skips (mirror x) (mirror h) e′ a′ → StepBackMeans x h e a (Step.Reject a e)
+      rejects-back s =
+          let less = s .0 in
+          (refl, refl, omega arith, λ j lo hi o. s .1 (mirrored x h j) (omega arith) (let fits = o .fits in omega arith) (occurs-mirror x h j o))
 
-    pub step-settles-back : {t t′ : Stop} → TurnedStop m n t t′ → Settled (mirror x) (mirror h) e′ a′ t′ → StepBackMeans x h e a (stepAnswer m a e t)
-    step-settles-back (TurnedStop.hit {k} {k′} q) s =
-        let here = s .0 in
-        let there = s .1 in
-        let start : k ≡ turned x h e′ = omega arith in
-        (omega arith, omega arith, refl, rw start (mirror-occurs x h e′ (s .2)))
-    step-settles-back TurnedStop.passed s = rejects-back s
-    step-settles-back TurnedStop.out s = rejects-back s
+      pub step-settles-back : {t t′ : Stop} → MirroredStop m n t t′ → Settled v (mirror x) (mirror h) e′ a′ t′ → StepBackMeans x h e a (stepAnswer (endingOf m t) a e)
+      step-settles-back (MirroredStop.hit {k} {k′} q) s =
+          let here = s .0 in
+          let there = s .1 in
+          let start : k ≡ mirrored x h e′ = omega arith in
+          (omega arith, omega arith, refl, rw start (mirror-occurs x h e′ (s .2)))
+      step-settles-back MirroredStop.passed s = rejects-back s
+      step-settles-back MirroredStop.out s = rejects-back s
 
 -- where P and Q hold of the same places, an answer says the same of both
 module _ (P Q : ℕ → Type 0) (to : (j : ℕ) → P j → Q j) (from : (j : ℕ) → Q j → P j) (m : ℕ) where

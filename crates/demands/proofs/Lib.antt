@@ -1,5 +1,4 @@
 pub mod OneWay
-pub mod States
 pub mod Calls
 pub mod Walks
 pub mod Start

@@ -10,135 +10,135 @@ use native.Mathlib.Omega.{arith}
 use Rattle.words.specs.Word.{Word}
 use Rattle.words.specs.Choice.{None, FindsLeast}
 use Rattle.words.specs.Occurs.{Occurs, OccursFrom, Leftmost}
-use Rattle.walks.specs.Window.{Plan, Cursor}
-use Rattle.walks.specs.Search.{Stop, Searched, forwardSearch}
-use Rattle.walks.specs.Meaning.{Guides, place}
-use Rattle.walks.proofs.Shape.{Shape}
-use Rattle.walks.proofs.Windows.{Sound, Skips, sound-start}
-use Rattle.walks.proofs.Meaning.{Meant, SearchMeans, search-means, leftmost-hit, leftmost-passed, leftmost-skip, meant-at, gap-whole, next-least}
-use Rattle.walks.proofs.Counts.{Sets, Spent, spent-none, spent-call, memory-kinds}
-use Rattle.searcher.specs.Walk.{walking}
+use Rattle.windows.specs.declared.Plan.{Plan}
+use Rattle.windows.specs.declared.Cursor.{Cursor}
+use Rattle.windows.specs.declared.Stop.{Stop}
+use Rattle.windows.specs.declared.Searched.{Searched}
+use Rattle.windows.specs.Search.{forwardSearch}
+use Rattle.windows.specs.Meaning.{Guides, Gap, place}
+use Rattle.windows.specs.Shape.{Shape}
+use Rattle.windows.proofs.Windows.{Sound, Skips, sound-start}
+use Rattle.windows.proofs.Meaning.{Meant, SearchMeans, search-means, leftmost-hit, leftmost-passed, leftmost-skip, meant-at, next-least}
+use Rattle.windows.proofs.Counts.{Sets, Spent, spent-none, spent-call, memory-kinds}
+use Rattle.search.specs.Calls.{walking}
 use Rattle.demands.specs.Reached.{Made, nothing-made, and-made}
 
 -- one search from a cursor, with room for every window
-abbrev pub searched : Plan → Word → Word → Bool → Cursor → Searched
-searched v x h early s = forwardSearch (h .size + 1) early v x h (s .at) s 0 0
+abbrev pub searched : (ℕ → Bool) → Plan → Word → Word → Bool → Cursor → Searched
+searched has v x h stepping s = forwardSearch (h .size + 1) stepping has v x h (s .at) s 0 0
 
 -- the matches of a search
 abbrev pub hits : Stop → List ℕ
-hits (Stop.hit k) = k ∷ []
-hits Stop.passed = []
-hits Stop.out = []
+hits (Stop.Hit k) = k ∷ []
+hits Stop.Passed = []
+hits Stop.Out = []
 
 -- what was given and made, with one search more
 abbrev pub and-searched : Made → Searched → Made
 and-searched made r = and-made made (hits (r .stop)) (walking (r .comparisons) (r .tests))
 
 -- a walk from `start` on: where it stands, and what it has given and made
-pub data Walked (v : Plan) (x h : Word) (start : Cursor) : Cursor → Made → Type 0 where
-  begun : Walked v x h start start nothing-made
-  on : {s : Cursor} {made : Made} (early : Bool) → Walked v x h start s made
-      → Walked v x h start (searched v x h early s .cursor) (and-searched made (searched v x h early s))
+pub data Walked (has : ℕ → Bool) (v : Plan) (x h : Word) (start : Cursor) : Cursor → Made → Type 0 where
+  begun : Walked has v x h start start nothing-made
+  on : {s : Cursor} {made : Made} (stepping : Bool) → Walked has v x h start s made
+      → Walked has v x h start (searched has v x h stepping s .cursor) (and-searched made (searched has v x h stepping s))
 
 -- ---- where it goes and what it costs: no premise is on the letters
 
--- the memories that a walk can have where a match clears it
+-- the memories that a walk can have, where a match clears it or sets the one that a difference sets
 abbrev pub Remembered : Plan → ℕ → Type 0
-Remembered v k = (k ≡ 0) ⊎ (k ≡ v .keep)
+Remembered v k = (k ≡ 0) ⊎ (k ≡ v .«period_memory»)
 
-pub searched-memory : {v : Plan} (x h : Word) (early : Bool) (s : Cursor) → Shape v (x .size) → v .kept ≡ 0 → Remembered v (s .memory)
-    → Remembered v (searched v x h early s .cursor .memory)
-searched-memory {v} x h early s shape cleared known = ⊎-elim (λ e. rw e known) by-window (memory-kinds v x h shape early (s .at) (h .size + 1) s 0 0)
+pub searched-memory : (has : ℕ → Bool) {v : Plan} (x h : Word) (stepping : Bool) (s : Cursor) → Shape v (x .size) → Remembered v (v .«shift_memory») → Remembered v (s .memory)
+    → Remembered v (searched has v x h stepping s .cursor .memory)
+searched-memory has {v} x h stepping s shape by-match known = ⊎-elim (λ e. rw e known) by-window (memory-kinds has v x h shape stepping (s .at) (h .size + 1) s 0 0)
   where
     by-window : {k : ℕ} → Sets v k → Remembered v k
     by-window (Sets.cleared e) = inl e
     by-window (Sets.by-difference e) = inr e
-    by-window (Sets.by-match e) = inl (e ∙ cleared)
+    by-window (Sets.by-match e) = rw e by-match
 
-module _ {v : Plan} {x h : Word} {start : Cursor} (shape : Shape v (x .size)) (inside : start .at ≤ h .size) (memory-fits : start .memory ≤ x .size) where
-  pub walked-spent : {s : Cursor} {made : Made} → Walked v x h start s made → Spent v (x .size) (h .size) (start .at) s (made .comparisons) (made .tests)
+module _ {has : ℕ → Bool} {v : Plan} {x h : Word} {start : Cursor} (shape : Shape v (x .size)) (inside : start .at ≤ h .size) (memory-fits : start .memory ≤ x .size) where
+  pub walked-spent : {s : Cursor} {made : Made} → Walked has v x h start s made → Spent v (x .size) (h .size) (start .at) s (made .comparisons) (made .tests)
   walked-spent Walked.begun = spent-none v (x .size) (h .size) (start .at) start refl inside memory-fits
-  walked-spent (Walked.on {s} {made} early w) =
-      spent-call v x h shape early (s .at) (h .size + 1) (start .at) s (made .comparisons) (made .tests) (walked-spent w)
+  walked-spent (Walked.on {s} {made} stepping w) =
+      spent-call has v x h shape stepping (s .at) (h .size + 1) (start .at) s (made .comparisons) (made .tests) (walked-spent w)
 
 -- ---- what its matches are
 
 -- What holds of a walk between any two searches, where it stands at s and has given the matches ks since it stood at a.
-pub record Holds (v : Plan) (x h : Word) (a : ℕ) (s : Cursor) (ks : List ℕ) : Type 0 where
-  -- no window passes over an occurrence, and a match moves by the needle's size
-  pub guides : Guides v x
-  pub whole : v .shift ≡ x .size
+pub record Holds (has : ℕ → Bool) (v : Plan) (x h : Word) (gap a : ℕ) (s : Cursor) (ks : List ℕ) : Type 0 where
+  -- no window passes over an occurrence, and a match moves on by the gap, or further where nothing is missed
+  pub guides : Guides has v x
+  pub gaps : Gap v x gap
   -- the memory is true
   pub sound : Sound x h s
   -- the matches so far, and then the greedy list from s on, are the greedy list from a on
-  pub lists : (ls : List ℕ) → Leftmost x h (x .size) (s .at) ls → Leftmost x h (x .size) a (ks ++ ls)
-
-nonempty : {v : Plan} {x : Word} → Guides v x → 0 < x .size
-nonempty g = let inside = g .split-inside in omega arith
+  pub lists : (ls : List ℕ) → Leftmost x h gap (s .at) ls → Leftmost x h gap a (ks ++ ls)
 
 module _ {v : Plan} {x h : Word} where
-  pub searched-means : (g : Guides v x) (early : Bool) (s : Cursor) → Sound x h s → SearchMeans v x h early (s .at) (s .at) (searched v x h early s)
-  searched-means g early s sound = search-means g h early (s .at) (h .size + 1) s 0 0 sound (omega arith)
-
   -- the matches of a search stand in front of the list from where it ends on
-  search-lists : {early : Bool} {old a : ℕ} {r : Searched} → Guides v x → v .shift ≡ x .size → SearchMeans v x h early old a r → (ls : List ℕ)
-      → Leftmost x h (x .size) (r .cursor .at) ls → Leftmost x h (x .size) a (hits (r .stop) ++ ls)
-  search-lists {a = a} {r = r} g whole m ls later = go (r .stop) refl
+  search-lists : {gap : ℕ} {stepping : Bool} {old a : ℕ} {r : Searched} → Gap v x gap → SearchMeans v x h stepping old a r → (ls : List ℕ)
+      → Leftmost x h gap (r .cursor .at) ls → Leftmost x h gap a (hits (r .stop) ++ ls)
+  search-lists {gap = gap} {a = a} {r = r} gaps m ls later = go (r .stop) refl
     where
-      go : (t : Stop) → r .stop ≡ t → Leftmost x h (x .size) a (hits t ++ ls)
-      go (Stop.hit k) e = leftmost-hit m (gap-whole whole (nonempty g)) e later
-      go Stop.passed e = leftmost-passed m e later
-      go Stop.out e = leftmost-skip (m .onward) (λ j lo hi o. meant-at m e .0 j (lo, o)) later
+      go : (t : Stop) → r .stop ≡ t → Leftmost x h gap a (hits t ++ ls)
+      go (Stop.Hit k) e = leftmost-hit m gaps e later
+      go Stop.Passed e = leftmost-passed m e later
+      go Stop.Out e = leftmost-skip (m .onward) (λ j lo hi o. meant-at m e .0 j (lo, o)) later
 
-  holds-start : {s : Cursor} → Guides v x → v .shift ≡ x .size → Sound x h s → Holds v x h (s .at) s []
-  holds-start g whole sound = record { guides = g; whole = whole; sound = sound; lists = λ ls l. l }
+module _ {has : ℕ → Bool} {v : Plan} {x h : Word} where
+  pub searched-means : (g : Guides has v x) (stepping : Bool) (s : Cursor) → Sound x h s → SearchMeans v x h stepping (s .at) (s .at) (searched has v x h stepping s)
+  searched-means g stepping s sound = search-means g h stepping (s .at) (h .size + 1) s 0 0 sound (omega arith)
 
-  holds-search : (early : Bool) {a : ℕ} {s : Cursor} {ks : List ℕ} → Holds v x h a s ks
-      → let r = searched v x h early s in Holds v x h a (r .cursor) (ks ++ hits (r .stop))
-  holds-search early {a} {s} {ks} i =
-      let m = searched-means (i .guides) early s (i .sound) in
+  holds-start : {gap : ℕ} {s : Cursor} → Guides has v x → Gap v x gap → Sound x h s → Holds has v x h gap (s .at) s []
+  holds-start g gaps sound = record { guides = g; gaps = gaps; sound = sound; lists = λ ls l. l }
+
+  holds-search : (stepping : Bool) {gap a : ℕ} {s : Cursor} {ks : List ℕ} → Holds has v x h gap a s ks
+      → let r = searched has v x h stepping s in Holds has v x h gap a (r .cursor) (ks ++ hits (r .stop))
+  holds-search stepping {s = s} i =
+      let m = searched-means (i .guides) stepping s (i .sound) in
       record {
         guides = i .guides;
-        whole = i .whole;
+        gaps = i .gaps;
         sound = m .sound;
-        lists = λ ls l. rw append-assoc (i .lists _ (search-lists (i .guides) (i .whole) m ls l));
+        lists = λ ls l. rw append-assoc (i .lists _ (search-lists (i .gaps) m ls l));
       }
 
-  walked-holds : {start s : Cursor} {made : Made} → Guides v x → v .shift ≡ x .size → Sound x h start → Walked v x h start s made
-      → Holds v x h (start .at) s (made .matches)
-  walked-holds g whole sound Walked.begun = holds-start g whole sound
-  walked-holds g whole sound (Walked.on early w) = holds-search early (walked-holds g whole sound w)
+  walked-holds : {gap : ℕ} {start s : Cursor} {made : Made} → Guides has v x → Gap v x gap → Sound x h start → Walked has v x h start s made
+      → Holds has v x h gap (start .at) s (made .matches)
+  walked-holds g gaps sound Walked.begun = holds-start g gaps sound
+  walked-holds g gaps sound (Walked.on stepping w) = holds-search stepping (walked-holds g gaps sound w)
 
   -- a whole walk: from the haystack's end on, with nothing remembered
-  pub whole-holds : {start s : Cursor} {made : Made} → Guides v x → v .shift ≡ x .size → start ≡ record { at = 0; memory = 0 } → Walked v x h start s made
-      → Holds v x h 0 s (made .matches)
-  whole-holds {s = s} {made = made} g whole e w =
-      walked-holds g whole (sound-start x h 0 (omega arith)) (subst (λ (start : Cursor). Walked v x h start s made) e w)
+  pub whole-holds : {gap : ℕ} {start s : Cursor} {made : Made} → Guides has v x → Gap v x gap → start ≡ record { at = 0; memory = 0 } → Walked has v x h start s made
+      → Holds has v x h gap 0 s (made .matches)
+  whole-holds {s = s} {made = made} g gaps e w =
+      walked-holds g gaps (sound-start x h 0 (omega arith)) (subst (λ (start : Cursor). Walked has v x h start s made) e w)
 
--- What a step has settled that started at a, before the haystack's end, and now stands at b: a match from a up to b, or that no occurrence starts in between.
-abbrev pub Settled : Word → Word → ℕ → ℕ → Stop → Type 0
-Settled x h a b (Stop.hit k) = (k ≡ a) × (b ≡ a + x .size) × Occurs x h a
-Settled x h a b Stop.passed = (a < b) × Skips x h a b
-Settled x h a b Stop.out = (a < b) × Skips x h a b
+-- What a step has settled that started at a, before the haystack's end, and now stands at b: a match at a, or that no occurrence starts in between.
+abbrev pub Settled : Plan → Word → Word → ℕ → ℕ → Stop → Type 0
+Settled v x h a b (Stop.Hit k) = (k ≡ a) × (b ≡ a + v .shift) × Occurs x h a
+Settled v x h a b Stop.Passed = (a < b) × Skips x h a b
+Settled v x h a b Stop.Out = (a < b) × Skips x h a b
 
-module _ {v : Plan} {x h : Word} {a : ℕ} {s : Cursor} {ks : List ℕ} (i : Holds v x h a s ks) where
+module _ {has : ℕ → Bool} {v : Plan} {x h : Word} {gap a : ℕ} {s : Cursor} {ks : List ℕ} (i : Holds has v x h gap a s ks) where
   -- where nothing is left, nothing was left out
-  pub holds-none : None (OccursFrom x h (s .at)) → Leftmost x h (x .size) a ks
+  pub holds-none : None (OccursFrom x h (s .at)) → Leftmost x h gap a ks
   holds-none m = rw append-nil at (i .lists [] (Leftmost.over m))
 
-  pub holds-next : FindsLeast (OccursFrom x h (s .at)) (place (searched v x h false s .stop))
+  pub holds-next : FindsLeast (OccursFrom x h (s .at)) (place (searched has v x h false s .stop))
   holds-next = next-least (searched-means (i .guides) false s (i .sound))
 
-  pub holds-step : (s .at ≡ h .size → ⊥) → let r = searched v x h true s in Settled x h (s .at) (r .cursor .at) (r .stop)
+  pub holds-step : (s .at ≡ h .size → ⊥) → let r = searched has v x h true s in Settled v x h (s .at) (r .cursor .at) (r .stop)
   holds-step more =
-      let r = searched v x h true s in
+      let r = searched has v x h true s in
       let m = searched-means (i .guides) true s (i .sound) in
       go (r .cursor .at) (r .stop) (m .onward) (m .meant)
     where
-      go : (b : ℕ) (t : Stop) → s .at ≤ b → Meant v x h true (s .at) (s .at) b t → Settled x h (s .at) b t
-      go b (Stop.hit k) up n =
+      go : (b : ℕ) (t : Stop) → s .at ≤ b → Meant v x h true (s .at) (s .at) b t → Settled v x h (s .at) b t
+      go b (Stop.Hit k) up n =
           let here = n .2 refl in
-          let whole = i .whole in
           (here, n .1 ∙ omega arith, rw here at (n .0 .holds .1))
-      go b Stop.passed up n = let moved = n .2 in (omega arith, n .0)
-      go b Stop.out up n = let inside = i .sound .inside in (let e = n .1 in omega arith, λ j lo hi o. n .0 j (lo, o))
+      go b Stop.Passed up n = let moved = n .2 in (omega arith, n .0)
+      go b Stop.Out up n = let inside = i .sound .inside in (let e = n .1 in omega arith, λ j lo hi o. n .0 j (lo, o))

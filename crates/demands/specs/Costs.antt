@@ -3,8 +3,8 @@
 use Prim.Native.Nat.{ℕ, _*_, _≤_}
 use mathlib.Core.List.{List}
 use lib.ListN.{length}
-use Rattle.walks.specs.Bounds.{Bounded}
-use Rattle.searcher.specs.Prepare.{prepareRule}
+use Rattle.windows.specs.Bounds.{Bounded}
+use Rattle.searcher.specs.Walk.{newRule}
 use Rattle.demands.specs.Reached.{Call, History, reached}
 
 -- Of a needle of m bytes, with k bytes left to walk forward and l backward. Of the tests 01 says: "a whole walk one way makes at most n-m+1 if m <= n, else none".
@@ -15,4 +15,4 @@ pub record Costs (m k l : ℕ) (H : History) : Type 0 where
 -- from preparing on, when the whole haystack is left both ways; and the preparing
 pub record Demand3 (needle haystack : List ℕ) (calls : List Call) : Type 0 where
   pub walking : Costs (length needle) (length haystack) (length haystack) (reached needle haystack calls)
-  pub preparing : prepareRule needle (length haystack) .counts .preparing ≤ 9 * length needle
+  pub preparing : newRule needle (length haystack) .counts .preparing ≤ 9 * length needle

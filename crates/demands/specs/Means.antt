@@ -1,15 +1,14 @@
 -- Demand 2: what the answers and the matches of a walk mean, in the haystack's own places.
 -- Assumes nothing.
-use Prim.Native.Nat.{ℕ, _+_, _<_, _≤_}
+use Prim.Native.Nat.{ℕ, _+_, _-_, _<_, _≤_}
 use mathlib.Core.Path.{_≡_}
 use mathlib.Core.Logic.{_⊎_}
 use mathlib.Core.List.{List, _++_}
 use lib.ListN.{length}
 use Rattle.words.specs.Word.{Word, front}
 use Rattle.words.specs.Choice.{Least, Greatest, None}
-use Rattle.words.specs.Occurs.{Occurs, OccursFrom, OccursUpTo, Leftmost, Rightmost}
-use Rattle.searcher.specs.Prepare.{prepareRule}
-use Rattle.searcher.specs.Walk.{nextRule, nextBackRule, nextMatchRule, nextMatchBackRule}
+use Rattle.words.specs.Occurs.{Occurs, OccursFrom, OccursBelow, Leftmost, Rightmost}
+use Rattle.searcher.specs.Walk.{newRule, nextRule, nextBackRule, nextMatchRule, nextMatchBackRule}
 use Rattle.searcher.specs.declared.Step.{Step}
 use Rattle.searcher.specs.declared.NextMatch.{NextMatch}
 use Rattle.demands.specs.Reached.{Call, History, reached}
@@ -47,6 +46,14 @@ StepBackMeans x h before after (Step.Refused why) = ⊥
 
 -- ---- a history of calls
 
+-- the matches that a walk lists start at least so far apart: by the needle's size, so that they do not overlap
+abbrev pub gapOf : List ℕ → ℕ
+gapOf needle = length needle
+
+-- an occurrence that ends at `end` or before it starts below this
+abbrev pub startsBelow : Word → ℕ → ℕ
+startsBelow x end = end + 1 - x .size
+
 module _ (needle haystack : List ℕ) (H : History) where
   abbrev x : Word
   x = front needle
@@ -54,61 +61,65 @@ module _ (needle haystack : List ℕ) (H : History) where
   abbrev h : Word
   h = front haystack
 
-  -- The forward matches are the greedy leftmost occurrences that do not overlap, each once and none left out before `position`:
-  -- with the greedy list from there on they are the one from 0 on.
-  abbrev pub ForwardList : Type 0
-  ForwardList = (ks : List ℕ) → Leftmost x h (x .size) (H .walk .position) ks → Leftmost x h (x .size) 0 (H .forward .matches ++ ks)
-
-  -- once a next match has nothing to give, or a step is Done, they are the whole list
-  abbrev pub ForwardNone : Type 0
-  ForwardNone =
-      (nextMatchRule needle haystack (H .walk) .answer ≡ NextMatch.Nothing) ⊎ (nextRule needle haystack (H .walk) .answer ≡ Step.Done)
-      → Leftmost x h (x .size) 0 (H .forward .matches)
-
   -- a next match gives the least occurrence from `position` on, "nothing exactly if there is none"
   abbrev pub NextMatchMeans : Type 0
-  NextMatchMeans = AnswersLeast (OccursFrom x h (H .walk .position)) (x .size) (nextMatchRule needle haystack (H .walk) .answer)
+  NextMatchMeans = AnswersLeast (OccursFrom x h (H .walk .moving .position)) (x .size) (nextMatchRule needle haystack (H .walk) .answer)
 
   -- a step settles what lies between `position` before and after it
   abbrev pub NextMeans : Type 0
-  NextMeans = let r = nextRule needle haystack (H .walk) in StepMeans x h (H .walk .position) (r .walk .position) (r .answer)
+  NextMeans = let r = nextRule needle haystack (H .walk) in StepMeans x h (H .walk .moving .position) (r .walk .moving .position) (r .answer)
 
   -- the same backward, from the haystack's end down to `end`
-  abbrev pub BackwardList : Type 0
-  BackwardList = (ks : List ℕ) → Rightmost x h (x .size) (H .walk .end) ks → Rightmost x h (x .size) (h .size) (H .backward .matches ++ ks)
-
-  abbrev pub BackwardNone : Type 0
-  BackwardNone =
-      (nextMatchBackRule needle haystack (H .walk) .answer ≡ NextMatch.Nothing) ⊎ (nextBackRule needle haystack (H .walk) .answer ≡ Step.Done)
-      → Rightmost x h (x .size) (h .size) (H .backward .matches)
-
   abbrev pub NextMatchBackMeans : Type 0
-  NextMatchBackMeans = AnswersGreatest (OccursUpTo x h (H .walk .end)) (x .size) (nextMatchBackRule needle haystack (H .walk) .answer)
+  NextMatchBackMeans = AnswersGreatest (OccursBelow x h (startsBelow x (H .walk .moving .end))) (x .size) (nextMatchBackRule needle haystack (H .walk) .answer)
 
   abbrev pub NextBackMeans : Type 0
-  NextBackMeans = let r = nextBackRule needle haystack (H .walk) in StepBackMeans x h (H .walk .end) (r .walk .end) (r .answer)
+  NextBackMeans = let r = nextBackRule needle haystack (H .walk) in StepBackMeans x h (H .walk .moving .end) (r .walk .moving .end) (r .answer)
+
+  -- ---- the matches, as lists at a gap
+
+  module _ (gap : ℕ) where
+    -- The forward matches are the greedy leftmost occurrences, each once and none left out before `position`:
+    -- with the greedy list from there on they are the one from 0 on.
+    abbrev pub ForwardList : Type 0
+    ForwardList = (ks : List ℕ) → Leftmost x h gap (H .walk .moving .position) ks → Leftmost x h gap 0 (H .forward .matches ++ ks)
+
+    -- once a next match has nothing to give, or a step is Done, they are the whole list
+    abbrev pub ForwardNone : Type 0
+    ForwardNone =
+        (nextMatchRule needle haystack (H .walk) .answer ≡ NextMatch.Nothing) ⊎ (nextRule needle haystack (H .walk) .answer ≡ Step.Done)
+        → Leftmost x h gap 0 (H .forward .matches)
+
+    -- the same backward: the greedy rightmost ones
+    abbrev pub BackwardList : Type 0
+    BackwardList = (ks : List ℕ) → Rightmost x h gap (startsBelow x (H .walk .moving .end)) ks → Rightmost x h gap (h .size + 1) (H .backward .matches ++ ks)
+
+    abbrev pub BackwardNone : Type 0
+    BackwardNone =
+        (nextMatchBackRule needle haystack (H .walk) .answer ≡ NextMatch.Nothing) ⊎ (nextBackRule needle haystack (H .walk) .answer ≡ Step.Done)
+        → Rightmost x h gap (h .size + 1) (H .backward .matches)
 
 -- ---- whole searches: the first next match from preparing on
 
 -- "find gives the least position", "nothing exactly if there is none"
-abbrev pub FindMeans : List ℕ → List ℕ → Type 0
-FindMeans needle haystack =
-    AnswersLeast (Occurs (front needle) (front haystack)) (length needle) (nextMatchRule needle haystack (prepareRule needle (length haystack) .walk) .answer)
+abbrev pub FirstMatchLeast : List ℕ → List ℕ → Type 0
+FirstMatchLeast needle haystack =
+    AnswersLeast (Occurs (front needle) (front haystack)) (length needle) (nextMatchRule needle haystack (newRule needle (length haystack) .walk) .answer)
 
 -- "rfind the greatest"
-abbrev pub RfindMeans : List ℕ → List ℕ → Type 0
-RfindMeans needle haystack =
-    AnswersGreatest (Occurs (front needle) (front haystack)) (length needle) (nextMatchBackRule needle haystack (prepareRule needle (length haystack) .walk) .answer)
+abbrev pub LastMatchGreatest : List ℕ → List ℕ → Type 0
+LastMatchGreatest needle haystack =
+    AnswersGreatest (Occurs (front needle) (front haystack)) (length needle) (nextMatchBackRule needle haystack (newRule needle (length haystack) .walk) .answer)
 
 -- all of it, after any calls from preparing on: "promised for states reached from preparation with the same bytes"
 pub record Demand2 (needle haystack : List ℕ) (calls : List Call) : Type 0 where
-  pub forward-list : ForwardList needle haystack (reached needle haystack calls)
-  pub forward-none : ForwardNone needle haystack (reached needle haystack calls)
+  pub forward-list : ForwardList needle haystack (reached needle haystack calls) (gapOf needle)
+  pub forward-none : ForwardNone needle haystack (reached needle haystack calls) (gapOf needle)
   pub next-match-means : NextMatchMeans needle haystack (reached needle haystack calls)
   pub step-means : NextMeans needle haystack (reached needle haystack calls)
-  pub backward-list : BackwardList needle haystack (reached needle haystack calls)
-  pub backward-none : BackwardNone needle haystack (reached needle haystack calls)
+  pub backward-list : BackwardList needle haystack (reached needle haystack calls) (gapOf needle)
+  pub backward-none : BackwardNone needle haystack (reached needle haystack calls) (gapOf needle)
   pub next-match-back-means : NextMatchBackMeans needle haystack (reached needle haystack calls)
   pub step-back-means : NextBackMeans needle haystack (reached needle haystack calls)
-  pub find-least : FindMeans needle haystack
-  pub rfind-greatest : RfindMeans needle haystack
+  pub find-least : FirstMatchLeast needle haystack
+  pub rfind-greatest : LastMatchGreatest needle haystack

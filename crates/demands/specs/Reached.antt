@@ -4,10 +4,9 @@
 use Prim.Native.Nat.{ℕ, _+_}
 use mathlib.Core.List.{List, [], _∷_, _++_}
 use lib.ListN.{length}
-use Rattle.searcher.specs.Prepare.{prepareRule}
-use Rattle.searcher.specs.Walk.{nextRule, nextBackRule, nextMatchRule, nextMatchBackRule}
+use Rattle.searcher.specs.Walk.{newRule, nextRule, nextBackRule, nextMatchRule, nextMatchBackRule}
 use Rattle.searcher.specs.declared.TwoWaySearcher.{TwoWaySearcher}
-use Rattle.searcher.specs.declared.Counts.{Counts}
+use Rattle.record.specs.declared.Counts.{Counts}
 use Rattle.searcher.specs.declared.Step.{Step}
 use Rattle.searcher.specs.declared.NextMatch.{NextMatch}
 
@@ -71,4 +70,4 @@ module _ (needle haystack : List ℕ) where
 
   -- "states reached from preparation with the same bytes"
   abbrev pub reached : List Call → History
-  reached calls = after (prepareRule needle (length haystack) .walk) calls
+  reached calls = after (newRule needle (length haystack) .walk) calls

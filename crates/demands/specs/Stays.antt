@@ -10,15 +10,15 @@ use Rattle.searcher.specs.declared.Step.{Step}
 use Rattle.searcher.specs.declared.NextMatch.{NextMatch}
 use Rattle.searcher.specs.declared.Stepped.{Stepped}
 use Rattle.searcher.specs.declared.Matched.{Matched}
-use Rattle.searcher.specs.Record.{fits}
+use Rattle.record.specs.Fits.{fits}
 use Rattle.searcher.specs.Walk.{nextRule, nextBackRule, nextMatchRule, nextMatchBackRule}
 
 module _ (needle haystack : List ℕ) where
   abbrev pub StepStays : Stepped → Type 0
-  StepStays r = (fits needle haystack (r .walk) ≡ true) × ((why : Refusal) → r .answer ≡ Step.Refused why → ⊥)
+  StepStays r = (fits needle haystack (r .walk .fixed) (r .walk .moving) ≡ true) × ((why : Refusal) → r .answer ≡ Step.Refused why → ⊥)
 
   abbrev pub MatchStays : Matched → Type 0
-  MatchStays r = (fits needle haystack (r .walk) ≡ true) × ((why : Refusal) → r .answer ≡ NextMatch.Refused why → ⊥)
+  MatchStays r = (fits needle haystack (r .walk .fixed) (r .walk .moving) ≡ true) × ((why : Refusal) → r .answer ≡ NextMatch.Refused why → ⊥)
 
   -- the four calls from the state s
   pub record Stays (s : TwoWaySearcher) : Type 0 where

@@ -1,2 +1,4 @@
 pub mod Bounds
 pub mod Refusals
+pub mod Checks
+pub mod Examples

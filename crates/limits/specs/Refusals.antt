@@ -1,4 +1,4 @@
--- The numbers of 01's table "Refusal numbers", and what they make of a row of checks.
+-- The numbers of 01's table "Refusal numbers".
 -- Assumes nothing.
 use Prim.Native.Nat.{ℕ}
 use Rattle.limits.specs.declared.Refusal.{Refusal}

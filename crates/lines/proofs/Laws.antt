@@ -9,19 +9,17 @@ use native.Mathlib.Numerals.{add-one}
 use native.Mathlib.Decide.{decLt}
 use native.Mathlib.Omega.{arith}
 use lib.Bits.{bitOr, or-shifted}
-use lib.Dec.{ltb, leb, eqb}
-use lib.ListN.{length, getD, drop, set, length-append, length-set, drop-of-length-le}
+use lib.Dec.{ltb}
+use lib.ListN.{length, getD, List·getD-eq-default, drop, set, length-append, length-set, drop-of-length-le}
 use lib.Pow.{pow-add, shl-exact}
 use lib.Seq.{drop-cons, set-out, sets, length-sets}
 use borrow.Author.Tests.{lt-ltb, le-ltb, le-leb, lt-leb, eq-eqb, ne-eqb}
-use Rattle.lines.specs.Printing.{Prints, decimalText, rowText}
-use Rattle.lines.specs.Reading.{firstIndex, isLetter, allLetters, isScript, starts, skipped, orderOf, orderAt, digitOf, takes, numbered, numberFrom, numberAt, setFrom, setAt, hasByte, byteAt, bytesFrom, wordBytes, wordAt, ReadsWord}
+use Rattle.lines.specs.Printing.{Prints, decimalText, hexText, spent, partText, formFrom, formText}
+use Rattle.lines.specs.Reading.{firstIndex, isLetter, allLetters, isScript, skipped, orderAt, digitOf, takes, numbered, numberFrom, numberAt, setFrom, setAt, hasByte, byteAt, bytesFrom, wordBytes, wordAt, ReadsWord}
 use Rattle.lines.specs.declared.parse.Cursor.{Cursor}
 use Rattle.lines.specs.declared.parse.Cursor.the-variants.{At, Lost}
 use Rattle.lines.specs.declared.parse.Number.{Number}
-use Rattle.lines.specs.declared.parse.Order.{Order}
 use Rattle.lines.specs.declared.parse.Set.{Set}
-use Rattle.lines.specs.declared.parse.Word.{Word}
 
 -- the search for b stands at it, goes on, and is at the end
 module _ (b : ℕ) (s : List ℕ) (k : ℕ) where
@@ -68,45 +66,30 @@ module _ (s : List ℕ) (i : ℕ) where
   unfolding allLetters isScript
   letters-not h n e = rw (← e, drop-cons s i 0 h, n)
 
--- a text that is compared with what stands at k of s, at its byte i
-module _ (s text : List ℕ) (k i : ℕ) where
-  pub starts-next : k < length s → i < length text → getD s k 0 ≡ getD text i 0
-      → starts (drop i text) (drop k s) ≡ starts (drop (i + 1) text) (drop (k + 1) s)
-  unfolding starts
-  starts-next h hi e =
-      rw (add-one i, add-one k, drop-cons s k 0 h, drop-cons text i 0 hi, eq-eqb (getD s k 0) (getD text i 0) e)
-
-  pub starts-not : k < length s → i < length text → (getD s k 0 ≡ getD text i 0 → ⊥) → starts (drop i text) (drop k s) ≡ false
-  unfolding starts
-  starts-not h hi e = rw (drop-cons s k 0 h, drop-cons text i 0 hi, ne-eqb (getD s k 0) (getD text i 0) e)
-
-  pub starts-short : length s ≤ k → i < length text → starts (drop i text) (drop k s) ≡ false
-  unfolding starts
-  starts-short h hi = rw (drop-of-length-le s h, drop-cons text i 0 hi)
-
-  pub starts-whole : length text ≤ i → starts (drop i text) (drop k s) ≡ true
-  unfolding starts
-  starts-whole h = rw (drop-of-length-le text h)
-
-module _ (s : List ℕ) (c : Cursor) (text : List ℕ) where
-  pub skipped-there : (k at : ℕ) → c ≡ At k → at ≡ k + length text → starts text (drop k s) ≡ true → At at ≡ skipped s c text
+-- a byte that is read, one that is another, the end of the line, and no place at all
+module _ (s : List ℕ) (c : Cursor) (b : ℕ) where
+  pub skipped-there : (k : ℕ) → c ≡ At k → k < length s → getD s k 0 ≡ b → At (k + 1) ≡ skipped s c b
   unfolding skipped
-  skipped-there k at e q h = rw (e, h, q)
+  skipped-there k e h is = rw (e, lt-ltb k (length s) h, eq-eqb (getD s k 0) b is)
 
-  pub skipped-not : (k : ℕ) → c ≡ At k → starts text (drop k s) ≡ false → Lost ≡ skipped s c text
+  pub skipped-other : (k : ℕ) → c ≡ At k → k < length s → (getD s k 0 ≡ b → ⊥) → Lost ≡ skipped s c b
   unfolding skipped
-  skipped-not k e h = rw (e, h)
+  skipped-other k e h not = rw (e, lt-ltb k (length s) h, ne-eqb (getD s k 0) b not)
 
-  pub skipped-lost : c ≡ Lost → Lost ≡ skipped s c text
+  pub skipped-end : (k : ℕ) → c ≡ At k → length s ≤ k → Lost ≡ skipped s c b
+  unfolding skipped
+  skipped-end k e h = rw (e, le-ltb k (length s) h)
+
+  pub skipped-lost : c ≡ Lost → Lost ≡ skipped s c b
   unfolding skipped
   skipped-lost e = rw e
 
-module _ (s : List ℕ) (c zero : Cursor) (first : zero ≡ skipped s c (48 ∷ [])) where
+module _ (s : List ℕ) (c zero : Cursor) (first : zero ≡ skipped s c 48) where
   pub order-zero : (k : ℕ) → zero ≡ At k → record { greater = false; next = zero } ≡ orderAt s c
   unfolding orderAt
   order-zero k e = rw (← first, e)
 
-  pub order-one : (one : Cursor) → zero ≡ Lost → one ≡ skipped s c (49 ∷ []) → record { greater = true; next = one } ≡ orderAt s c
+  pub order-one : (one : Cursor) → zero ≡ Lost → one ≡ skipped s c 49 → record { greater = true; next = one } ≡ orderAt s c
   unfolding orderAt
   order-one one e second = rw (← first, e, second)
 
@@ -271,9 +254,6 @@ module _ (v d left : ℕ) (below : v < 2 ^ (4 * (16 - left))) (more : 0 < left) 
 abbrev pub Same : List ℕ → ℕ → List ℕ → List ℕ → ℕ → List ℕ → Type 0
 Same l i s m j t = (min (i + length s) (length l) ≡ min (j + length t) (length m)) × (sets l i s ≡ sets m j t)
 
-pub same-trans : (l m n s t u : List ℕ) (i j k : ℕ) → Same l i s m j t → Same m j t n k u → Same l i s n k u
-same-trans l m n s t u i j k a b = (a .0 ∙ b .0, a .1 ∙ b .1)
-
 -- one text behind another
 stores-append : (l : List ℕ) (i : ℕ) (a b : List ℕ) → sets (sets l i a) (i + length a) b ≡ sets l i (a ++ b)
 stores-append l i [] b = let e : i + 0 ≡ i = omega arith in ap (λ (x : ℕ). sets l x b) e
@@ -294,29 +274,65 @@ prints-then room a mid b i q p =
       ],
     )
 
-pub row-next : (out mid after row : List ℕ) (mark i q r k : ℕ) → k < length row → Prints out i (mark ∷ []) mid q
-    → Prints mid q (decimalText (getD row k 0)) after r → Same after r (rowText mark (drop (k + 1) row)) out i (rowText mark (drop k row))
-unfolding rowText
-row-next out mid after row mark i q r k h first second =
-    let rest : List ℕ = rowText mark (drop (suc k) row) in
-    let digits : List ℕ = decimalText (getD row k 0) in
-    rw (add-one k, drop-cons row k 0 h)
-    (same-trans after mid out rest (digits ++ rest) (mark ∷ (digits ++ rest)) r q i
-    (prints-then mid digits after rest q r second)
-    (prints-then out (mark ∷ []) mid (digits ++ rest) i q first))
+pub number-none : (numbers : List ℕ) (k : ℕ) → length numbers ≤ k → 0 ≡ getD numbers k 0
+number-none numbers k h = sym (List·getD-eq-default numbers 0 h)
 
-pub row-begins : (room mid t : List ℕ) (i q : ℕ) → Prints room i [] mid q → Same mid q t mid i t
-row-begins room mid t i q p =
-    let e : mid ≡ room = p .1 in
-    let s = prints-then room [] mid t i q p in
-    (omega (arith, ap length e), s .1 ∙ ap (λ (l : List ℕ). sets l i t) (sym e))
+-- a byte of a form, and the text of it
+pub spent-none : (b k size : ℕ) → size ≤ k → 0 ≡ spent b k size
+unfolding spent
+spent-none b k size h = rw (le-ltb k size h)
 
-pub row-ends : (room first out row : List ℕ) (mark i j k r : ℕ) → Prints room i [] first r → length row ≤ k → j ≤ length out
-    → Same out j (rowText mark (drop k row)) first i (rowText mark row) → Prints room i (rowText mark row) out j
-unfolding rowText
-row-ends room first out row mark i j k r p h within same =
-    let e : first ≡ room = p .1 in
-    let done : Same out j (rowText mark []) room i (rowText mark row) = rw (drop-of-length-le row h, e) at same in
+pub spent-mark : (b k size : ℕ) → k < size → (b ≡ 35) ⊎ (b ≡ 37) → 1 ≡ spent b k size
+unfolding spent
+spent-mark b k size h (inl e) = rw (lt-ltb k size h, e)
+spent-mark b k size h (inr e) = rw (lt-ltb k size h, e)
+
+pub spent-other : (b k size : ℕ) → k < size → ((b ≡ 35) ⊎ (b ≡ 37) → ⊥) → 0 ≡ spent b k size
+unfolding spent
+spent-other b k size h not = rw (lt-ltb k size h, ne-eqb b 35 (λ e. not (inl e)), ne-eqb b 37 (λ e. not (inr e)))
+
+module _ (room after : List ℕ) (at r b n more : ℕ) where
+  pub part-byte : more ≡ 0 → Prints room at (b ∷ []) after r → Prints room at (partText more b n) after r
+  unfolding partText
+  part-byte e p = rw e p
+
+  pub part-set : (more ≡ 0 → ⊥) → more ≤ 1 → b ≡ 37 → Prints room at (hexText n) after r → Prints room at (partText more b n) after r
+  unfolding partText
+  part-set some most e p = let one : more ≡ 1 = omega arith in rw (one, eq-eqb b 37 e) p
+
+  pub part-number : (more ≡ 0 → ⊥) → more ≤ 1 → (b ≡ 37 → ⊥) → Prints room at (decimalText n) after r → Prints room at (partText more b n) after r
+  unfolding partText
+  part-number some most e p = let one : more ≡ 1 = omega arith in rw (one, ne-eqb b 37 e) p
+
+form-next : (out after form numbers : List ℕ) (i r j k n more : ℕ) → j < length form → more ≡ spent (getD form j 0) k (length numbers) → n ≡ getD numbers k 0
+    → Prints out i (partText more (getD form j 0) n) after r → Same after r (formFrom (k + more) (drop (j + 1) form) numbers) out i (formFrom k (drop j form) numbers)
+unfolding formFrom
+form-next out after form numbers i r j k n more h e is shown =
+    rw (add-one j, drop-cons form j 0 h, ← e, ← is)
+    (prints-then out (partText more (getD form j 0) n) after (formFrom (k + more) (drop (suc j) form) numbers) i r shown)
+
+-- what is left of a form comes to the same place and the same room, before a byte of it and behind
+pub form-moves : (out after form numbers final : List ℕ) (i r j k n more place : ℕ) → j < length form → more ≡ spent (getD form j 0) k (length numbers) → n ≡ getD numbers k 0
+    → Prints out i (partText more (getD form j 0) n) after r
+    → (min (i + length (formFrom k (drop j form) numbers)) (length out) ≡ place) × (sets out i (formFrom k (drop j form) numbers) ≡ final)
+    → (min (r + length (formFrom (k + more) (drop (j + 1) form) numbers)) (length after) ≡ place) × (sets after r (formFrom (k + more) (drop (j + 1) form) numbers) ≡ final)
+form-moves out after form numbers final i r j k n more place h e is shown so-far =
+    let next = form-next out after form numbers i r j k n more h e is shown in
+    (next .0 ∙ so-far .0, next .1 ∙ so-far .1)
+
+-- a start past the end of the room is as good as its end
+pub form-begins : (room t : List ℕ) (i q : ℕ) → q ≡ min i (length room) → Same room q t room i t
+form-begins room t i q e =
+    elim (decLt (length room) i) [
+      | yes h ↦ (omega arith, stores-past room q t (omega arith) ∙ sym (stores-past room i t (omega arith)))
+      | no h ↦ (omega arith, ap (λ (x : ℕ). sets room x t) (omega arith))
+    ]
+
+pub form-ends : (room out form numbers : List ℕ) (i q j k : ℕ) → length form ≤ j → q ≤ length out
+    → Same out q (formFrom k (drop j form) numbers) room i (formFrom 0 form numbers) → Prints room i (formText form numbers) out q
+unfolding formFrom formText
+form-ends room out form numbers i q j k h within same =
+    let done : Same out q (formFrom k [] numbers) room i (formFrom 0 form numbers) = rw (drop-of-length-le form h) at same in
     (omega (arith, done .0), done .1)
 
 -- whether a byte stands at k: what each test of it says
@@ -400,7 +416,7 @@ module _ (into s : List ℕ) (k len v j : ℕ) (fits : len < length into) (place
   word-store = rw (here, rest, is-byte, add-one len)
 
 -- what is returned
-module _ (s into : List ℕ) (c dash : Cursor) (is : dash ≡ skipped s c (45 ∷ [])) where
+module _ (s into : List ℕ) (c dash : Cursor) (is : dash ≡ skipped s c 45) where
   pub word-dash : (d : ℕ) → dash ≡ At d → ReadsWord s c into into (record { len = 0; next = dash })
   unfolding wordAt wordBytes
   word-dash d e = (rw (← is, e), rw (← is, e))

@@ -1,4 +1,4 @@
 pub mod Examples
-pub mod Printed
+pub mod InRoom
 pub mod Printing
 pub mod Reading

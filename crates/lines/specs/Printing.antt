@@ -4,8 +4,8 @@ use Prim.Native.Nat.{ℕ, zero, suc, _+_, _/_, min}
 use mathlib.Core.Path.{_≡_}
 use mathlib.Core.Bool.{cond}
 use mathlib.Core.List.{List, [], _∷_, _++_}
-use lib.Dec.{ltb}
-use lib.ListN.{length}
+use lib.Dec.{ltb, eqb}
+use lib.ListN.{length, getD}
 use lib.Seq.{sets}
 use Rattle.io.specs.Digits.{digits}
 
@@ -27,7 +27,20 @@ decimalSize (suc most) n = cond (ltb n 10) 1 (decimalSize most (n / 10) + 1)
 unfoldable pub decimalText : ℕ → List ℕ
 decimalText n = digits 10 (decimalSize 20 n) n
 
--- numbers in text, each with `mark` before it
-unfoldable pub rowText : ℕ → List ℕ → List ℕ
-rowText mark [] = []
-rowText mark (n ∷ row) = mark ∷ (decimalText n ++ rowText mark row)
+-- how many numbers the byte b of a form stands for, where k of `size` are spent: one for a mark, `#` (35) or `%` (37), while there are some
+unfoldable pub spent : ℕ → ℕ → ℕ → ℕ
+spent b k size = cond (ltb k size) (cond (eqb b 35) 1 (cond (eqb b 37) 1 0)) 0
+
+-- the text of the byte b of a form: itself where it stands for no number, else the number n, in hex for `%`
+unfoldable pub partText : ℕ → ℕ → ℕ → List ℕ
+partText zero b n = b ∷ []
+partText (suc more) b n = cond (eqb b 37) (hexText n) (decimalText n)
+
+-- a form in text, where k of the numbers are spent
+unfoldable pub formFrom : ℕ → List ℕ → List ℕ → List ℕ
+formFrom k [] numbers = []
+formFrom k (b ∷ form) numbers =
+    partText (spent b k (length numbers)) b (getD numbers k 0) ++ formFrom (k + spent b k (length numbers)) form numbers
+
+unfoldable pub formText : List ℕ → List ℕ → List ℕ
+formText form numbers = formFrom 0 form numbers

@@ -37,16 +37,10 @@ allLetters (x ∷ s) = cond (isLetter x) (allLetters s) false
 unfoldable pub isScript : List ℕ → Bool
 isScript s = cond (allLetters s) (ltb 0 (length s)) false
 
--- whether s starts with text
-unfoldable pub starts : List ℕ → List ℕ → Bool
-starts [] s = true
-starts (y ∷ text) [] = false
-starts (y ∷ text) (x ∷ s) = cond (eqb x y) (starts text s) false
-
--- the cursor behind text, where text stands in s at the cursor; else none
-unfoldable pub skipped : List ℕ → Cursor → List ℕ → Cursor
-skipped s (At k) text = cond (starts text (drop k s)) (At (k + length text)) Lost
-skipped s Lost text = Lost
+-- the cursor behind the byte b, where b stands in s at the cursor; else none
+unfoldable pub skipped : List ℕ → Cursor → ℕ → Cursor
+skipped s (At k) b = cond (ltb k (length s) && eqb (getD s k 0) b) (At (k + 1)) Lost
+skipped s Lost b = Lost
 
 -- the order that is read: `greater` is false where there is a cursor behind a 0; else it is true, with the cursor behind a 1
 abbrev pub orderOf : Cursor → Cursor → Order
@@ -55,7 +49,7 @@ orderOf Lost one = record { greater = true; next = one }
 
 -- the order at the cursor: 0 or 1, which are 48 and 49 in the line
 unfoldable pub orderAt : List ℕ → Cursor → Order
-orderAt s c = orderOf (skipped s c (48 ∷ [])) (skipped s c (49 ∷ []))
+orderAt s c = orderOf (skipped s c 48) (skipped s c 49)
 
 -- the value of a hex digit, 0 to 9 (48 to 57) or a to f (97 to 102); 16 for a byte that is none
 unfoldable pub digitOf : ℕ → ℕ
@@ -125,11 +119,11 @@ wordOf Lost room s Lost = record { len = 0; next = Lost }
 
 -- the word's bytes, for which there is `room`
 unfoldable pub wordBytes : ℕ → List ℕ → Cursor → List ℕ
-wordBytes room s c = bytesOf (skipped s c (45 ∷ [])) room s c
+wordBytes room s c = bytesOf (skipped s c 45) room s c
 
 -- its length, and the cursor behind it
 unfoldable pub wordAt : ℕ → List ℕ → Cursor → Word
-wordAt room s c = wordOf (skipped s c (45 ∷ [])) room s c
+wordAt room s c = wordOf (skipped s c 45) room s c
 
 -- r is the word that is read at c into the room `into`, which is `after` then: the word's bytes stand at its front
 abbrev pub ReadsWord : List ℕ → Cursor → List ℕ → List ℕ → Word → Type 0

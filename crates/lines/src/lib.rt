@@ -16,5 +16,4 @@ pub use parse::read_word;
 pub use parse::skip;
 pub use parse::until;
 pub use print::put;
-pub use print::put_row;
-pub use print::put_set;
+pub use print::put_form;

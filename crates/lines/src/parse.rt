@@ -89,33 +89,27 @@ pub fn until(s: &[u8], b: u8) -> usize
     at
 }
 
-// Reads `text`.
-pub fn skip(s: &[u8], c: Cursor, text: &[u8]) -> Cursor
-    ensures rule { λ r. ⌜ r ≡ skipped (now (s .entry)) c (now (text .entry)) ⌝ }
+// Reads the byte `b`.
+pub fn skip(s: &[u8], c: Cursor, b: u8) -> Cursor
+    ensures rule { λ r. ⌜ r ≡ skipped (now (s .entry)) c b ⌝ }
 {
-    let Cursor::At(from) = c else {
+    let Cursor::At(at) = c else {
         return Cursor::Lost;
     };
-    let mut at = from;
-    let mut i = 0;
-    while i < text.len() {
-        if s.len() <= at {
-            return Cursor::Lost;
-        }
-        if s[at] != text[i] {
-            return Cursor::Lost;
-        }
-        at += 1;
-        i += 1;
+    if s.len() <= at {
+        return Cursor::Lost;
     }
-    Cursor::At(at)
+    if s[at] != b {
+        return Cursor::Lost;
+    }
+    Cursor::At(at + 1)
 }
 
 // Reads 0 or 1.
 pub fn read_order(s: &[u8], c: Cursor) -> Order
     ensures rule { λ r. ⌜ r ≡ orderAt (now (s .entry)) c ⌝ }
 {
-    let zero = skip(s, c, b"0");
+    let zero = skip(s, c, b'0');
     if let Cursor::At(_) = zero {
         return Order {
             greater: false,
@@ -124,7 +118,7 @@ pub fn read_order(s: &[u8], c: Cursor) -> Order
     }
     Order {
         greater: true,
-        next: skip(s, c, b"1"),
+        next: skip(s, c, b'1'),
     }
 }
 
@@ -167,8 +161,8 @@ fn read_number(s: &[u8], c: Cursor) -> Number
 }
 
 // Reads `mark`, and a number behind it.
-pub fn read_field(s: &[u8], c: Cursor, mark: &[u8]) -> Number
-    ensures rule { λ r. ⌜ r ≡ numberAt (now (s .entry)) (skipped (now (s .entry)) c (now (mark .entry))) ⌝ }
+pub fn read_field(s: &[u8], c: Cursor, mark: u8) -> Number
+    ensures rule { λ r. ⌜ r ≡ numberAt (now (s .entry)) (skipped (now (s .entry)) c mark) ⌝ }
 {
     read_number(s, skip(s, c, mark))
 }
@@ -238,7 +232,7 @@ pub fn read_word(s: &[u8], c: Cursor, into: &mut [u8]) -> Word
     ensures { λ r. ⌜ r .len ≤ length (now (into .exit)) ⌝ }
     ensures rule { λ r. ⌜ ReadsWord (now (s .entry)) c (now (into .entry)) (now (into .exit)) r ⌝ }
 {
-    let dash = skip(s, c, b"-");
+    let dash = skip(s, c, b'-');
     if let Cursor::At(_) = dash {
         return Word { len: 0, next: dash };
     }

@@ -6,6 +6,7 @@ use mathlib.Core.Bool.{Bool, true, false, cond}
 use mathlib.Core.List.{List, [], _∷_}
 use mathlib.Core.Option.{Option, none, some}
 use native.Mathlib.Omega.{arith}
+use borrow.Author.Count.{below-more}
 use lib.Dec.{ltb, eqb}
 use lib.ListN.{length, getD}
 use borrow.Author.Tests.{lt-ltb, le-ltb, eq-eqb, ne-eqb, ltb-true, ltb-false, eqb-true, eqb-false}
@@ -17,22 +18,32 @@ use Rattle.scan.specs.Scanned.{placeOf, before, scanned, fromFront, from
 use Rattle.scan.specs.declared.Found.the-variants.{At, Nothing}
 use Rattle.scan.specs.declared.Scan.{Scan}
 
--- none of the first k letters of w is x
-abbrev pub Missed : ℕ → Word → ℕ → Type 0
-Missed x w k = (j : ℕ) → j < k → w .letter j ≡ x → ⊥
+-- w has k letters, and none of its first k is x
+pub record Missed (x : ℕ) (w : Word) (k : ℕ) : Type 0 where
+  pub inside : k ≤ w .size
+  pub other : (j : ℕ) → j < k → w .letter j ≡ x → ⊥
+
+-- a is the letter that the code read after k letters
+module _ {x : ℕ} {w : Word} where
+  pub missed-none : Missed x w 0
+  missed-none = record { inside = omega arith; other = λ j h. absurd (omega arith) }
+
+  pub missed-more : {k a : ℕ} → (a ≡ x → ⊥) → a ≡ w .letter k → Missed x w k → k < w .size → Missed x w (k + 1)
+  missed-more q e m h =
+      record { inside = omega arith; other = below-more _ _ (m .other) (λ z. q (e ∙ z)) }
+
+  -- a scan that passed k letters and stands at x, and one that passed them all
+  scanned-hit : (place : ℕ → ℕ) {k a : ℕ} → a ≡ x → a ≡ w .letter k → Missed x w k → k < w .size → scanned x w place ≡ record { found = At (place k); comparisons = k + 1 }
+  unfolding scanned before
+  scanned-hit place {k} q e m h =
+      rw (least-at (λ i. eqb (w .letter i) x) (w .size) k h (eq-eqb _ _ (sym e ∙ q)) (λ j hj. ne-eqb _ _ (m .other j hj)), lt-ltb k (w .size) h)
+
+  scanned-miss : (place : ℕ → ℕ) {k : ℕ} → Missed x w k → w .size ≤ k → scanned x w place ≡ record { found = Nothing; comparisons = w .size }
+  unfolding scanned before
+  scanned-miss place m h =
+      rw (least-none (λ i. eqb (w .letter i) x) (w .size) (λ j hj. ne-eqb _ _ (m .other j (omega arith))), le-ltb (w .size) (w .size) (omega arith))
 
 module _ (x : ℕ) (w : Word) (place : ℕ → ℕ) where
-  -- a scan that passed k letters and stands at x, and one that passed them all
-  pub scanned-hit : (k : ℕ) → k < w .size → w .letter k ≡ x → Missed x w k → scanned x w place ≡ record { found = At (place k); comparisons = k + 1 }
-  unfolding scanned before
-  scanned-hit k h e m =
-      rw (least-at (λ i. eqb (w .letter i) x) (w .size) k h (eq-eqb _ _ e) (λ j hj. ne-eqb _ _ (m j hj)), lt-ltb k (w .size) h)
-
-  pub scanned-miss : Missed x w (w .size) → scanned x w place ≡ record { found = Nothing; comparisons = w .size }
-  unfolding scanned before
-  scanned-miss m =
-      rw (least-none (λ i. eqb (w .letter i) x) (w .size) (λ j hj. ne-eqb _ _ (m j hj)), le-ltb (w .size) (w .size) (omega arith))
-
   -- what the rule's answer means, for any reading M of a place: a hit and a miss have to be shown
   means : (M : Option ℕ → Type 0) → ((k : ℕ) → k < w .size → w .letter k ≡ x → Missed x w k → M (some (place k))) → (Missed x w (w .size) → M none)
       → M (placeOf (scanned x w place .found))
@@ -46,10 +57,10 @@ module _ (x : ℕ) (w : Word) (place : ℕ → ℕ) where
           → M (placeOf (cond {A = Scan} b (record { found = At (place (before x w)); comparisons = before x w + 1 }) (record { found = Nothing; comparisons = w .size }) .found))
       go true e =
           let h = ltb-true (before x w) (w .size) e in
-          hit (before x w) h (eqb-true _ _ (passed .found (omega arith))) (λ j hj. eqb-false _ _ (passed .missed j (omega arith) hj))
+          hit (before x w) h (eqb-true _ _ (passed .found (omega arith))) (record { inside = omega arith; other = λ j hj. eqb-false _ _ (passed .missed j (omega arith) hj) })
       go false e =
           let h = ltb-false (before x w) (w .size) e in
-          miss (λ j hj. eqb-false _ _ (passed .missed j (omega arith) (omega arith)))
+          miss (record { inside = omega arith; other = λ j hj. eqb-false _ _ (passed .missed j (omega arith) (omega arith)) })
 
 module _ (x : ℕ) (text : List ℕ) where
   abbrev Stands : ℕ → Type 0
@@ -72,8 +83,8 @@ module _ (x : ℕ) (text : List ℕ) where
   pub front-means : FindsLeast Stands (placeOf (fromFront x text .found))
   front-means =
       means x (front text) (λ k. k) (FindsLeast Stands)
-      (λ k h e m. record { holds = stands k h e; none-before = λ j hj o. m j hj (is-letter j o) })
-      (λ m j o. let f = o .fits in m j (omega arith) (is-letter j o))
+      (λ k h e m. record { holds = stands k h e; none-before = λ j hj o. m .other j hj (is-letter j o) })
+      (λ m j o. let f = o .fits in m .other j (omega arith) (is-letter j o))
 
   -- "rfind the greatest"
   pub back-means : FindsGreatest Stands (placeOf (fromBack x text .found))
@@ -81,13 +92,27 @@ module _ (x : ℕ) (text : List ℕ) where
       means x (back text) (λ k. length text - (1 + k)) (FindsGreatest Stands)
       (λ k h e m. record {
         holds = stands (length text - (1 + k)) (omega arith) e;
-        none-after = λ j hj o. let f = o .fits in m (length text - (1 + j)) (omega arith) (ap (λ (y : ℕ). getD text y 0) (omega arith) ∙ is-letter j o);
+        none-after = λ j hj o. let f = o .fits in m .other (length text - (1 + j)) (omega arith) (ap (λ (y : ℕ). getD text y 0) (omega arith) ∙ is-letter j o);
       })
-      (λ m j o. let f = o .fits in m (length text - (1 + j)) (omega arith) (ap (λ (y : ℕ). getD text y 0) (omega arith) ∙ is-letter j o))
+      (λ m j o. let f = o .fits in m .other (length text - (1 + j)) (omega arith) (ap (λ (y : ℕ). getD text y 0) (omega arith) ∙ is-letter j o))
 
-  -- what each return of a scan has to show, from the rule's answer alone
-  pub front-settled : (r : Scan) → fromFront x text ≡ r → (r ≡ fromFront x text) × FindsLeast Stands (placeOf (r .found))
+  -- What each return of a scan has to show: the rule's answer, and what it means.
+  front-settled : (r : Scan) → fromFront x text ≡ r → (r ≡ fromFront x text) × FindsLeast Stands (placeOf (r .found))
   front-settled r e = (sym e, subst (λ (y : Scan). FindsLeast Stands (placeOf (y .found))) e front-means)
 
-  pub back-settled : (r : Scan) → fromBack x text ≡ r → (r ≡ fromBack x text) × FindsGreatest Stands (placeOf (r .found))
+  back-settled : (r : Scan) → fromBack x text ≡ r → (r ≡ fromBack x text) × FindsGreatest Stands (placeOf (r .found))
   back-settled r e = (sym e, subst (λ (y : Scan). FindsGreatest Stands (placeOf (y .found))) e back-means)
+
+  pub front-hit : {k a : ℕ} → Missed x (front text) k → k < length text → a ≡ x → a ≡ getD text k 0
+      → (record { found = At k; comparisons = k + 1 } ≡ fromFront x text) × Least Stands k
+  front-hit m h q e = front-settled _ (scanned-hit (λ k. k) q e m h)
+
+  pub front-miss : {k : ℕ} → Missed x (front text) k → length text ≤ k → (record { found = Nothing; comparisons = length text } ≡ fromFront x text) × None Stands
+  front-miss m h = front-settled _ (scanned-miss (λ k. k) m h)
+
+  pub back-hit : {k a : ℕ} → Missed x (back text) k → k < length text → a ≡ x → a ≡ getD text (length text - (1 + k)) 0
+      → (record { found = At (length text - (1 + k)); comparisons = k + 1 } ≡ fromBack x text) × Greatest Stands (length text - (1 + k))
+  back-hit m h q e = back-settled _ (scanned-hit (λ k. length text - (1 + k)) q e m h)
+
+  pub back-miss : {k : ℕ} → Missed x (back text) k → length text ≤ k → (record { found = Nothing; comparisons = length text } ≡ fromBack x text) × None Stands
+  back-miss m h = back-settled _ (scanned-miss (λ k. length text - (1 + k)) m h)

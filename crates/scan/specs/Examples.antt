@@ -1,27 +1,36 @@
--- 01's "Run": "a" in "banana" is at 1 with 2 comparisons, from the back at 5 with 1; "a" in "" is none with 0.
--- Assumes nothing.
+-- Examples of the scans, computed from their definitions: one table under one claim.
+-- The letters are ASCII: "a" is 97, "c" 99. Assumes nothing.
 use Prim.Native.Nat.{ℕ}
-use mathlib.Core.Path.{_≡_, refl}
 use mathlib.Core.List.{List, [], _∷_}
+use lib.Dec.{T}
 use Rattle.words.specs.Choice.{firstFrom}
+use Rattle.words.specs.Examples.{Example, banana, same, all-as-stated}
 use Rattle.scan.specs.Scanned.{before, scanned, fromFront, fromBack}
+use Rattle.scan.specs.declared.Found.{Found}
 use Rattle.scan.specs.declared.Found.the-variants.{At, Nothing}
 use Rattle.scan.specs.declared.Scan.{Scan}
 
-abbrev pub banana : List ℕ
-banana = 98 ∷ 97 ∷ 110 ∷ 97 ∷ 110 ∷ 97 ∷ []
+-- a place is written as the list of it alone, and none as the empty list
+abbrev pub place : Found → List ℕ
+place (At k) = k ∷ []
+place Nothing = []
 
-abbrev pub computed : List Scan
-computed = fromFront 97 banana ∷ fromBack 97 banana ∷ fromFront 97 [] ∷ fromBack 99 banana ∷ []
+-- the comparisons of a scan, and its place
+abbrev pub numbers : Scan → List ℕ
+numbers s = s .comparisons ∷ place (s .found)
 
-abbrev pub stated : List Scan
-stated =
-    record { found = At 1; comparisons = 2 }
-    ∷ record { found = At 5; comparisons = 1 }
-    ∷ record { found = Nothing; comparisons = 0 }
-    ∷ record { found = Nothing; comparisons = 6 }
+abbrev pub table : List Example
+table =
+    -- 01's "Run": "a" in "banana" is at 1 with 2 comparisons, from the back at 5 with 1; "a" in "" is none with 0
+    record { computed = numbers (fromFront 97 banana); stated = 2 ∷ 1 ∷ [] }
+    ∷ record { computed = numbers (fromBack 97 banana); stated = 1 ∷ 5 ∷ [] }
+    ∷ record { computed = numbers (fromFront 97 []); stated = 0 ∷ [] }
+    ∷ record { computed = numbers (fromBack 97 []); stated = 0 ∷ [] }
+    -- "all n bytes if there is none": "c" in "banana"
+    ∷ record { computed = numbers (fromFront 99 banana); stated = 6 ∷ [] }
+    ∷ record { computed = numbers (fromBack 99 banana); stated = 6 ∷ [] }
     ∷ []
 
-pub examples : computed ≡ stated
-unfolding scanned before firstFrom
-examples = refl
+pub examples : T (all-as-stated table)
+unfolding all-as-stated same scanned before firstFrom
+examples = tt

@@ -1,5 +1,7 @@
 ghost use mathlib.Core.Path.{_≡_};
 ghost use mathlib.Core.List.{[], _∷_};
+ghost use Prim.Native.Nat.{_<_};
+ghost use lib.ListN.{length, getD};
 ghost use Rattle.words.specs.Word.{front};
 ghost use Rattle.words.specs.Choice.{FindsLeast, FindsGreatest};
 ghost use Rattle.words.specs.Occurs.{Occurs};
@@ -17,15 +19,22 @@ pub struct Scan {
     pub comparisons: usize,
 }
 
+// Reads a byte: the one place of this crate that does.
+fn letter(text: &[u8], i: usize) -> u8
+    requires { ⌜ i < length (now text) ⌝ }
+    ensures { λ r. ⌜ r ≡ getD (now (text .entry)) i 0 ⌝ }
+{
+    text[i]
+}
+
 // The first byte of `text` that is `x`.
 pub fn memchr(x: u8, text: &[u8]) -> Scan
     ensures rule { λ r. ⌜ r ≡ fromFront x (now (text .entry)) ⌝ }
     ensures meaning { λ r. ⌜ FindsLeast (Occurs (front (x ∷ [])) (front (now (text .entry)))) (placeOf (r .found)) ⌝ }
 {
-    let n = text.len();
     let mut at: usize = 0;
-    while at < n {
-        if text[at] == x {
+    while at < text.len() {
+        if letter(text, at) == x {
             return Scan {
                 found: Found::At(at),
                 comparisons: at + 1,
@@ -35,7 +44,7 @@ pub fn memchr(x: u8, text: &[u8]) -> Scan
     }
     Scan {
         found: Found::Nothing,
-        comparisons: n,
+        comparisons: text.len(),
     }
 }
 
@@ -44,11 +53,10 @@ pub fn memrchr(x: u8, text: &[u8]) -> Scan
     ensures rule { λ r. ⌜ r ≡ fromBack x (now (text .entry)) ⌝ }
     ensures meaning { λ r. ⌜ FindsGreatest (Occurs (front (x ∷ [])) (front (now (text .entry)))) (placeOf (r .found)) ⌝ }
 {
-    let n = text.len();
     let mut passed: usize = 0;
-    while passed < n {
-        let at = n - (1 + passed);
-        if text[at] == x {
+    while passed < text.len() {
+        let at = text.len() - (1 + passed);
+        if letter(text, at) == x {
             return Scan {
                 found: Found::At(at),
                 comparisons: passed + 1,
@@ -58,6 +66,6 @@ pub fn memrchr(x: u8, text: &[u8]) -> Scan
     }
     Scan {
         found: Found::Nothing,
-        comparisons: n,
+        comparisons: text.len(),
     }
 }

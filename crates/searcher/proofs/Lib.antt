@@ -1,12 +1,1 @@
-pub mod Letters
-pub mod Answers
-pub mod Fitting
-pub mod Chosen
-pub mod Preparing
-pub mod Ready
-pub mod Guiding
-pub mod Turns
-pub mod TurnsBack
-pub mod Loops
-pub mod LoopBack
-pub mod Calls
+pub mod Laws

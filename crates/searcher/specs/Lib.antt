@@ -1,5 +1,1 @@
-pub mod Compare
-pub mod Record
-pub mod Prepare
 pub mod Walk
-pub mod Code

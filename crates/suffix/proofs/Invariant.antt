@@ -3,12 +3,12 @@
 -- (That `left` starts the maximal suffix of what was read is not so right after a restart; this speaks of the whole word.)
 -- Facts on letters are stated over any two places i and j that are related by an equation, so that a use needs no rewriting.
 -- Assumes nothing.
-use Prim.Native.Nat.{ℕ, zero, suc, _+_, _-_, _*_, _<_, _≤_}
-use mathlib.Core.Path.{_≡_, refl, sym, _∙_, ap, subst, subst₂}
-use mathlib.Core.Bool.{Bool, true, false, cond}
-use mathlib.Core.Logic.{_⊎_, inl, inr, ⊎-elim}
+use Prim.Native.Nat.{ℕ, zero, suc, _+_, _-_, _<_, _≤_}
+use mathlib.Core.Path.{_≡_, refl, sym, _∙_, ap}
+use mathlib.Core.Bool.{Bool}
+use mathlib.Core.Logic.{inl, inr, ⊎-elim}
 use native.Mathlib.Omega.{arith}
-use native.Mathlib.Decide.{decLt, decLe}
+use native.Mathlib.Decide.{decLt}
 use Rattle.words.specs.Word.{Word, suffix}
 use Rattle.words.specs.Period.{Period}
 use Rattle.words.specs.Order.{Below, Less}
@@ -227,6 +227,24 @@ module _ (g : Bool) (x : Word) (l r o p : ℕ) (v : Inv g x l r o p) where
 
   -- where the period holds up to the end, each later suffix is less, and no smaller period is one
   module _ (per : (i j : ℕ) → l ≤ i → j ≡ i + p → j < x .size → x .letter i ≡ x .letter j) where
+    -- a suffix that is less stays so p letters further on
+    further : (s : ℕ) → l + p < s → s ≤ x .size → Less g (suffix x (s - p)) (suffix x l) → Less g (suffix x s) (suffix x l)
+    further s c b B =
+        elim (decLt (s + B .k) (x .size)) [
+          | yes e ↦ record {
+            k = B .k;
+            same = λ i hi. sym (per (s - p + i) (s + i) (omega arith) (omega arith) (omega arith)) ∙ B .same i hi;
+            more = B .more;
+            parts = ⊎-elim (λ t. inl (omega arith, below-eq g (per (s - p + B .k) (s + B .k) (omega arith) (omega arith) (omega arith)) refl (t .1))) (λ t. absurd (omega arith)) (B .parts);
+          }
+          | no e ↦ record {
+            k = x .size - s;
+            same = λ i hi. sym (per (s - p + i) (s + i) (omega arith) (omega arith) (omega arith)) ∙ B .same i (omega arith);
+            more = omega arith;
+            parts = inr (omega arith);
+          }
+        ]
+
     pub later : (f s : ℕ) → s ≤ f → l < s → s ≤ x .size → Less g (suffix x s) (suffix x l)
     later zero s hf a b = absurd (omega arith)
     later (suc f) s hf a b =
@@ -241,22 +259,7 @@ module _ (g : Bool) (x : Word) (l r o p : ℕ) (v : Inv g x l r o p) where
                 parts = inl (omega arith, A .low (l + A .t) (s + A .t) refl (omega arith));
               }
           | no w ↦ elim (decLt (l + p) s) [
-            | yes c ↦
-                let B = rec c in
-                elim (decLt (s + B .k) (x .size)) [
-                  | yes e ↦ record {
-                    k = B .k;
-                    same = λ i hi. sym (per (s - p + i) (s + i) (omega arith) (omega arith) (omega arith)) ∙ B .same i hi;
-                    more = B .more;
-                    parts = ⊎-elim (λ t. inl (omega arith, below-eq g (per (s - p + B .k) (s + B .k) (omega arith) (omega arith) (omega arith)) refl (t .1))) (λ t. absurd (omega arith)) (B .parts);
-                  }
-                  | no e ↦ record {
-                    k = x .size - s;
-                    same = λ i hi. sym (per (s - p + i) (s + i) (omega arith) (omega arith) (omega arith)) ∙ B .same i (omega arith);
-                    more = omega arith;
-                    parts = inr (omega arith);
-                  }
-                ]
+            | yes c ↦ further s c b (rec c)
             | no c ↦ record {
               k = x .size - s;
               same = λ i hi. sym (per (l + i) (s + i) (omega arith) (omega arith) (omega arith));

@@ -1,11 +1,10 @@
 -- What each return of the two calls has to show, and that no second answer fits the meaning.
 -- Assumes nothing.
-use Prim.Native.Nat.{ℕ, _+_, _-_, _*_, _<_, _≤_}
-use mathlib.Core.Path.{_≡_, refl, sym, _∙_, ap, subst}
-use mathlib.Core.Bool.{Bool, true, false, cond}
+use Prim.Native.Nat.{ℕ, _*_, _<_, _≤_}
+use mathlib.Core.Path.{_≡_, refl, sym, _∙_, subst}
+use mathlib.Core.Bool.{Bool, true, false}
 use mathlib.Core.List.{List}
-use mathlib.Core.Option.{Option, none, some}
-use native.Mathlib.Omega.{arith}
+use mathlib.Core.Option.{none, some}
 use lib.Dec.{ltb}
 use lib.ListN.{length}
 use borrow.Author.Tests.{ltb-true, ltb-false}
@@ -17,46 +16,47 @@ use Rattle.words.proofs.Mirror.{period-mirror}
 use Rattle.words.proofs.Order.{maximal-alone}
 use Rattle.limits.specs.Bounds.{needleBound}
 use Rattle.limits.specs.declared.Refusal.the-variants.{NeedleTooLong}
-use Rattle.suffix.specs.Rounds.{Outcome, State, rounds, run, out, start}
-use Rattle.suffix.specs.Answer.{Sound, IsFound, maximalRule, MaximalMeaning, reverseRule, ReverseMeaning}
+use Rattle.suffix.specs.Rounds.{rounds}
+use Rattle.suffix.specs.Answer.{IsFound, maximalRule, MaximalMeaning, reverseRule, ReverseMeaning}
+use Rattle.suffix.specs.declared.Suffix.{Suffix}
 use Rattle.suffix.specs.declared.SuffixAnswer.{SuffixAnswer}
 use Rattle.suffix.specs.declared.ReverseAnswer.{ReverseAnswer}
 use Rattle.suffix.proofs.Steps.{few-rounds}
 use Rattle.suffix.proofs.Maximal.{plain-found, known-found}
 
-module _ (g : Bool) (w : List ℕ) where
-  pub maximal-refused : ltb needleBound (length w) ≡ true
+-- t is the answer of check 2
+module _ (g : Bool) (w : List ℕ) {t : Bool} where
+  pub maximal-refused : t ≡ true → t ≡ ltb needleBound (length w)
       → (SuffixAnswer.Refused NeedleTooLong ≡ maximalRule g w) × MaximalMeaning g w (SuffixAnswer.Refused NeedleTooLong)
   unfolding maximalRule
-  maximal-refused e = (rw e, (ltb-true _ _ e, refl))
+  maximal-refused q e = (rw (sym e ∙ q), (ltb-true _ _ (sym e ∙ q), refl))
 
-  pub maximal-returns : (o : Outcome) → ltb needleBound (length w) ≡ false → rounds g (front w) none ≡ o
-      → (SuffixAnswer.Found (record { start = o .start; period = o .period; rounds = o .rounds }) ≡ maximalRule g w)
-      × MaximalMeaning g w (SuffixAnswer.Found (record { start = o .start; period = o .period; rounds = o .rounds }))
+  pub maximal-returns : {r : Suffix} → t ≡ false → t ≡ ltb needleBound (length w) → rounds g (front w) none ≡ r
+      → (SuffixAnswer.Found r ≡ maximalRule g w) × MaximalMeaning g w (SuffixAnswer.Found r)
   unfolding maximalRule
-  maximal-returns o e q = (rw (e, q), (ltb-false _ _ e, subst (IsFound g (front w)) q (plain-found g (front w))))
+  maximal-returns q e made = (rw (sym e ∙ q, made), (ltb-false _ _ (sym e ∙ q), subst (IsFound g (front w)) made (plain-found g (front w))))
 
   module _ (known : ℕ) where
-    pub reverse-refused : ltb needleBound (length w) ≡ true
+    pub reverse-refused : t ≡ true → t ≡ ltb needleBound (length w)
         → (ReverseAnswer.Refused NeedleTooLong ≡ reverseRule g known w) × ReverseMeaning g known w (ReverseAnswer.Refused NeedleTooLong)
     unfolding reverseRule
-    reverse-refused e = (rw e, (ltb-true _ _ e, refl))
+    reverse-refused q e = (rw (sym e ∙ q), (ltb-true _ _ (sym e ∙ q), refl))
 
-    pub reverse-returns : (o : Outcome) → ltb needleBound (length w) ≡ false → rounds g (back w) (some known) ≡ o
-        → (ReverseAnswer.Found (record { start = o .start; rounds = o .rounds }) ≡ reverseRule g known w)
-        × ReverseMeaning g known w (ReverseAnswer.Found (record { start = o .start; rounds = o .rounds }))
+    pub reverse-returns : {r : Suffix} → t ≡ false → t ≡ ltb needleBound (length w) → rounds g (back w) (some known) ≡ r
+        → (ReverseAnswer.Found (record { start = r .start; rounds = r .rounds }) ≡ reverseRule g known w)
+        × ReverseMeaning g known w (ReverseAnswer.Found (record { start = r .start; rounds = r .rounds }))
     unfolding reverseRule
-    reverse-returns o e q = (
-      rw (e, q),
+    reverse-returns q e made = (
+      rw (sym e ∙ q, made),
       (
-        ltb-false _ _ e,
-        subst (λ (r : Outcome). r .rounds ≤ 2 * length w) q (few-rounds g (back w) (some known)),
-        λ P. subst (λ (r : Outcome). MaximalSuffix g (back w) (r .start)) q (known-found g (back w) known (period-mirror (front w) known P) .maximal),
+        ltb-false _ _ (sym e ∙ q),
+        subst (λ (r : Suffix). r .rounds ≤ 2 * length w) made (few-rounds g (back w) (some known)),
+        λ P. subst (λ (r : Suffix). MaximalSuffix g (back w) (r .start)) made (known-found g (back w) known (period-mirror (front w) known P) .maximal),
       ),
     )
 
 -- no second start and period fit the meaning
-pub found-alone : (g : Bool) (x : Word) (r q : Outcome) → 0 < x .size → IsFound g x r → IsFound g x q → (r .start ≡ q .start) × (r .period ≡ q .period)
+pub found-alone : (g : Bool) (x : Word) (r q : Suffix) → 0 < x .size → IsFound g x r → IsFound g x q → (r .start ≡ q .start) × (r .period ≡ q .period)
 found-alone g x r q h a b =
     let e = maximal-alone g x (r .start) (q .start) (a .maximal) (b .maximal) in
     (e, least-alone (Period (suffix x (r .start))) (r .period) (q .period) (a .period h) (subst (λ (s : ℕ). SmallestPeriod (suffix x s) (q .period)) (sym e) (b .period h)))

@@ -1,21 +1,20 @@
 -- The rounds find the maximal suffix and its smallest period, in at most twice the word's size; and they still do if they stop at a period of the whole word.
 -- Assumes nothing.
 use Prim.Native.Nat.{ℕ, zero, suc, _+_, _-_, _*_, _<_, _≤_}
-use mathlib.Core.Path.{_≡_, refl, sym, _∙_, ap, subst}
+use mathlib.Core.Path.{_≡_, refl, sym, subst}
 use mathlib.Core.Bool.{Bool, true, false, cond, false≢true}
 use mathlib.Core.Option.{Option, none, some}
 use native.Mathlib.Omega.{arith}
 use native.Mathlib.Decide.{decLt}
 use lib.Dec.{ltb, eqb}
 use borrow.Author.Tests.{ltb-true, ltb-false, eqb-true, eqb-false}
-use Rattle.words.specs.Word.{Word, suffix}
-use Rattle.words.specs.Choice.{Least}
-use Rattle.words.specs.Period.{Period, SmallestPeriod}
-use Rattle.words.specs.Order.{Below, below, MaximalSuffix}
-use Rattle.words.proofs.Tests.{refutes}
+use Rattle.words.specs.Word.{Word}
+use Rattle.words.specs.Period.{Period}
+use Rattle.words.specs.Order.{Below, below}
 use Rattle.words.proofs.Decided.{below-decided}
-use Rattle.suffix.specs.Rounds.{State, Outcome, move, round, run, out, stops, start, rounds}
+use Rattle.suffix.specs.Rounds.{roundOn, round, run, out, stops, start, rounds}
 use Rattle.suffix.specs.Answer.{IsFound}
+use Rattle.suffix.specs.declared.State.{State}
 use Rattle.suffix.proofs.Steps.{potential, run-stop}
 use Rattle.suffix.proofs.Invariant.{Inv, first, same-on, same-wrap, lower, higher, later, is-period, smallest}
 
@@ -29,7 +28,7 @@ module _ (g : Bool) (x : Word) where
 
   -- a round keeps the invariant, and the potential rises
   step : (s : State) → Holds s → s .right + s .offset < x .size → Holds (round g x s) × (potential s < potential (round g x s))
-  unfolding move
+  unfolding roundOn
   step s v h = go (below g a b) (eqb a b) (eqb (s .offset + 1) (s .period)) refl refl refl
     where
       a : ℕ

@@ -4,40 +4,29 @@ use Prim.Native.Nat.{ℕ, _+_, _*_, _<_, _≤_}
 use mathlib.Core.Path.{_≡_}
 use mathlib.Core.Bool.{Bool, cond}
 use mathlib.Core.List.{List}
-use mathlib.Core.Option.{Option, none, some}
+use mathlib.Core.Option.{none, some}
 use lib.Dec.{ltb}
 use lib.ListN.{length}
 use Rattle.words.specs.Word.{Word, front, back, suffix}
 use Rattle.words.specs.Period.{Period, SmallestPeriod}
 use Rattle.words.specs.Order.{MaximalSuffix}
 use Rattle.limits.specs.Bounds.{needleBound}
-use Rattle.limits.specs.declared.Refusal.{Refusal}
 use Rattle.limits.specs.declared.Refusal.the-variants.{NeedleTooLong}
-use Rattle.suffix.specs.Rounds.{Outcome, rounds}
-use Rattle.suffix.specs.Rounds as loop
+use Rattle.suffix.specs.Rounds.{rounds}
 use Rattle.suffix.specs.declared.State.{State}
 use Rattle.suffix.specs.declared.Suffix.{Suffix}
-use Rattle.suffix.specs.declared.ReverseSuffix.{ReverseSuffix}
 use Rattle.suffix.specs.declared.SuffixAnswer.{SuffixAnswer}
 use Rattle.suffix.specs.declared.ReverseAnswer.{ReverseAnswer}
 
--- the code's state as the loop's, and back
-abbrev pub toState : loop.State → State
-toState s = record { left = s .left; right = s .right; offset = s .offset; period = s .period }
-
-abbrev pub ofState : State → loop.State
-ofState s = record { left = s .left; right = s .right; offset = s .offset; period = s .period }
-
 -- what every state of the loop satisfies
-pub record Sound (s : loop.State) : Type 0 where
+pub record Sound (s : State) : Type 0 where
   pub fits : s .left + s .period ≤ s .right
   pub short : s .offset < s .period
 
 -- "The two maximal suffix calls make only check 2, on their word"; else the rounds of the source decide
 unfoldable pub maximalRule : Bool → List ℕ → SuffixAnswer
 maximalRule g w =
-    let r = rounds g (front w) none in
-    cond (ltb needleBound (length w)) (SuffixAnswer.Refused NeedleTooLong) (SuffixAnswer.Found (record { start = r .start; period = r .period; rounds = r .rounds }))
+    cond (ltb needleBound (length w)) (SuffixAnswer.Refused NeedleTooLong) (SuffixAnswer.Found (rounds g (front w) none))
 
 -- "`reverse_maximal_suffix` does the same on the reversed word, gives the start only"
 unfoldable pub reverseRule : Bool → ℕ → List ℕ → ReverseAnswer
@@ -46,7 +35,7 @@ reverseRule g known w =
     cond (ltb needleBound (length w)) (ReverseAnswer.Refused NeedleTooLong) (ReverseAnswer.Found (record { start = r .start; rounds = r .rounds }))
 
 -- "`maximal_suffix` gives its start and its smallest period; for an empty word 0 and 1", and the rounds are at most twice the word's length
-pub record IsFound (g : Bool) (x : Word) (r : Outcome) : Type 0 where
+pub record IsFound (g : Bool) (x : Word) (r : Suffix) : Type 0 where
   pub maximal : MaximalSuffix g x (r .start)
   pub period : 0 < x .size → SmallestPeriod (suffix x (r .start)) (r .period)
   pub empty : x .size ≡ 0 → (r .period ≡ 1) × (r .rounds ≡ 0)
@@ -54,7 +43,7 @@ pub record IsFound (g : Bool) (x : Word) (r : Outcome) : Type 0 where
 
 -- refused exactly if the word is over the bound
 abbrev pub MaximalMeaning : Bool → List ℕ → SuffixAnswer → Type 0
-MaximalMeaning g w (SuffixAnswer.Found s) = (length w ≤ needleBound) × IsFound g (front w) (record { start = s .start; period = s .period; rounds = s .rounds })
+MaximalMeaning g w (SuffixAnswer.Found s) = (length w ≤ needleBound) × IsFound g (front w) s
 MaximalMeaning g w (SuffixAnswer.Refused n) = (needleBound < length w) × (n ≡ NeedleTooLong)
 
 -- "With the needle's smallest period as the known one, the start is the true one": any period of the whole word will do

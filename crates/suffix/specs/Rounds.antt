@@ -1,31 +1,20 @@
 -- The rounds of the source's maximal suffix loop, over a word read in either direction. Executable.
 -- Assumes nothing.
 use Prim.Native.Nat.{ℕ, zero, suc, _+_, _-_, _*_}
-use mathlib.Core.Bool.{Bool, true, false, cond}
+use mathlib.Core.Bool.{Bool, false, cond}
 use mathlib.Core.Option.{Option, none, some}
 use lib.Dec.{ltb, eqb}
 use Rattle.words.specs.Word.{Word}
 use Rattle.words.specs.Order.{below}
-
--- where the loop stands: the start of the best suffix so far, the start of the one that is held against it, how many letters of the two agree, and the period so far
-pub record State : Type 0 where
-  pub left : ℕ
-  pub right : ℕ
-  pub offset : ℕ
-  pub period : ℕ
-
--- what the loop ends with
-pub record Outcome : Type 0 where
-  pub start : ℕ
-  pub period : ℕ
-  pub rounds : ℕ
+use Rattle.suffix.specs.declared.State.{State}
+use Rattle.suffix.specs.declared.Suffix.{Suffix}
 
 -- One round, on the new letter a and the letter b that is expected there:
 -- a is lower: "Suffix is smaller, period is entire prefix so far";
 -- a is the same: "Advance through repetition of the current period";
 -- a is higher: "Suffix is larger, start over from current location".
-unfoldable pub move : Bool → ℕ → ℕ → State → State
-move g a b s =
+unfoldable pub roundOn : Bool → ℕ → ℕ → State → State
+roundOn g a b s =
     cond (below g a b)
     (record {
       left = s .left;
@@ -41,9 +30,9 @@ move g a b s =
 
 -- the round on the letters of the word x
 abbrev pub round : Bool → Word → State → State
-round g x s = move g (x .letter (s .right + s .offset)) (x .letter (s .left + s .offset)) s
+round g x s = roundOn g (x .letter (s .right + s .offset)) (x .letter (s .left + s .offset)) s
 
-abbrev pub out : State → ℕ → Outcome
+abbrev pub out : State → ℕ → Suffix
 out s k = record { start = s .left; period = s .period; rounds = k }
 
 -- whether a round that leaves the period p is the last one: "stops after the first round in which its current period equals the known one"
@@ -52,7 +41,7 @@ stops none p = false
 stops (some known) p = eqb p known
 
 -- the rounds, while the new letter is inside the word, counted from k on; at most as many as the first argument
-unfoldable pub run : ℕ → Bool → Word → Option ℕ → State → ℕ → Outcome
+unfoldable pub run : ℕ → Bool → Word → Option ℕ → State → ℕ → Suffix
 run zero g x known s k = out s k
 run (suc more) g x known s k =
     let next = round g x s in
@@ -64,5 +53,5 @@ abbrev pub start : State
 start = record { left = 0; right = 1; offset = 0; period = 1 }
 
 -- twice the word's size is room for every round
-unfoldable pub rounds : Bool → Word → Option ℕ → Outcome
+unfoldable pub rounds : Bool → Word → Option ℕ → Suffix
 rounds g x known = run (2 * x .size) g x known start 0

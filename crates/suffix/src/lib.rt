@@ -1,9 +1,10 @@
 use limits::Refusal;
 ghost use mathlib.Core.Path.{_≡_};
 ghost use Prim.Native.Nat.{_+_, _<_, _^_};
+ghost use lib.ListN.{length, getD};
 ghost use Rattle.words.specs.Order.{below};
-ghost use Rattle.suffix.specs.Rounds.{move};
-ghost use Rattle.suffix.specs.Answer.{toState, ofState, Sound, maximalRule, MaximalMeaning, reverseRule, ReverseMeaning};
+ghost use Rattle.suffix.specs.Rounds.{roundOn};
+ghost use Rattle.suffix.specs.Answer.{Sound, maximalRule, MaximalMeaning, reverseRule, ReverseMeaning};
 
 // The maximal suffix of a word: where it starts, its smallest period, and the rounds that it took to find it.
 pub struct Suffix {
@@ -36,6 +37,14 @@ struct State {
     period: usize, // p in the paper
 }
 
+// Reads a letter: the one place of this crate that does.
+fn letter(arr: &[u8], i: usize) -> u8
+    requires { ⌜ i < length (now arr) ⌝ }
+    ensures { λ r. ⌜ r ≡ getD (now (arr .entry)) i 0 ⌝ }
+{
+    arr[i]
+}
+
 // Whether a is below b, in the byte order or in the reversed one.
 fn is_below(a: u8, b: u8, order_greater: bool) -> bool
     ensures { λ r. ⌜ r ≡ below «order_greater» a b ⌝ }
@@ -44,44 +53,40 @@ fn is_below(a: u8, b: u8, order_greater: bool) -> bool
 }
 
 // One round, on the new letter a and the letter b that is expected there. Both loops below make it, so that their proofs are one.
-fn turn(s: State, a: u8, b: u8, order_greater: bool) -> State
-    requires { ⌜ Sound (ofState s) × (s .right + s .offset < 2 ^ 63) ⌝ }
-    ensures { λ r. ⌜ r ≡ toState (move «order_greater» a b (ofState s)) ⌝ }
+fn round_on(s: State, a: u8, b: u8, order_greater: bool) -> State
+    requires { ⌜ Sound s × (s .right + s .offset < 2 ^ 63) ⌝ }
+    ensures { λ r. ⌜ r ≡ roundOn «order_greater» a b s ⌝ }
 {
-    let left = s.left;
-    let right = s.right;
-    let offset = s.offset;
-    let period = s.period;
     if is_below(a, b, order_greater) {
         // Suffix is smaller, period is entire prefix so far.
         return State {
-            left,
-            right: right + (offset + 1),
+            left: s.left,
+            right: s.right + (s.offset + 1),
             offset: 0,
-            period: right + (offset + 1) - left,
+            period: s.right + (s.offset + 1) - s.left,
         };
     }
     if a == b {
         // Advance through repetition of the current period.
-        if offset + 1 == period {
+        if s.offset + 1 == s.period {
             return State {
-                left,
-                right: right + (offset + 1),
+                left: s.left,
+                right: s.right + (s.offset + 1),
                 offset: 0,
-                period,
+                period: s.period,
             };
         }
         return State {
-            left,
-            right,
-            offset: offset + 1,
-            period,
+            left: s.left,
+            right: s.right,
+            offset: s.offset + 1,
+            period: s.period,
         };
     }
     // Suffix is larger, start over from current location.
     State {
-        left: right,
-        right: right + 1,
+        left: s.right,
+        right: s.right + 1,
         offset: 0,
         period: 1,
     }
@@ -106,7 +111,7 @@ pub fn maximal_suffix(arr: &[u8], order_greater: bool) -> SuffixAnswer
     while s.right + s.offset < n {
         let i = s.right + s.offset;
         let j = s.left + s.offset;
-        s = turn(s, arr[i], arr[j], order_greater);
+        s = round_on(s, letter(arr, i), letter(arr, j), order_greater);
         rounds += 1;
     }
     SuffixAnswer::Found(Suffix {
@@ -135,7 +140,7 @@ pub fn reverse_maximal_suffix(arr: &[u8], known_period: usize, order_greater: bo
     while s.right + s.offset < n {
         let i = n - (1 + (s.right + s.offset));
         let j = n - (1 + (s.left + s.offset));
-        s = turn(s, arr[i], arr[j], order_greater);
+        s = round_on(s, letter(arr, i), letter(arr, j), order_greater);
         rounds += 1;
         if s.period == known_period {
             break;

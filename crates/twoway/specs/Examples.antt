@@ -1,133 +1,108 @@
 -- 01's checked examples P1 to P12, from the rules: one table under one claim.
 -- The letters are ASCII: "a" is 97. Assumes nothing.
 use Prim.Native.Nat.{ℕ, zero, suc, _+_}
-use mathlib.Core.Path.{_≡_, refl}
 use mathlib.Core.Bool.{Bool, true, false}
-use mathlib.Core.List.{List, [], _∷_}
+use mathlib.Core.List.{List, [], _∷_, _++_}
 use mathlib.Core.Option.{none}
+use lib.Dec.{T}
 use lib.ListN.{length}
 use Rattle.words.specs.Word.{front}
 use Rattle.words.specs.Choice.{firstFrom}
-use Rattle.words.specs.Examples.{aab, gcagagag, banana, nana, acba, xacbaacbxxcba, aa, aaa}
+use Rattle.words.specs.Examples.{Example, same, all-as-stated, aab, gcagagag, banana, nana, acba, xacbaacbxxcba, aa, aaa}
 use Rattle.limits.specs.Bounds.{haystackBound, needleBound}
+use Rattle.limits.specs.Checks.{lengths}
+use Rattle.limits.specs.Refusals.{numberOf}
 use Rattle.byteset.specs.Fingerprint.{bitOf, into, fingerprint, has}
-use Rattle.suffix.specs.Rounds.{move, run, rounds}
-use Rattle.walks.specs.Window.{forwardWindow, backwardWindow}
-use Rattle.walks.specs.Search.{forwardSearch, backwardSearch}
-use Rattle.searcher.specs.Record.{fitsShort, fitsLong, fits}
-use Rattle.searcher.specs.Prepare.{chosen, agree, prepareShort, prepareLong, forwardRounds, reverseRounds, steps, prepareRule}
-use Rattle.searcher.specs.Walk.{refusal, forward, backward, stepForward, stepBackward, nextRule, nextBackRule, nextMatchRule, nextMatchBackRule}
-use Rattle.searcher.specs.declared.Memory.{Memory}
+use Rattle.compare.specs.Agree.{agreeing, agree}
+use Rattle.suffix.specs.Rounds.{roundOn, run, rounds}
+use Rattle.windows.specs.Window.{forwardWindow, backwardWindow}
+use Rattle.windows.specs.Search.{forwardSearch, backwardSearch}
+use Rattle.record.specs.Fits.{fitsShort, fitsLong, fits, fitting}
+use Rattle.record.specs.declared.Memory.{Memory}
+use Rattle.record.specs.declared.Memory.the-variants.{Long, Short}
+use Rattle.prepare.specs.Prepare.{chosen, forwardRounds, reverseRounds, prepareShort, prepareLong, fiveSteps, checks, prepareRule}
+use Rattle.search.specs.Calls.{refusal, forward, backward, forwardCall, backwardCall}
+use Rattle.searcher.specs.Walk.{newRule, nextRule, nextBackRule}
 use Rattle.searcher.specs.declared.Step.{Step}
 use Rattle.searcher.specs.declared.Stepped.{Stepped}
 use Rattle.searcher.specs.declared.TwoWaySearcher.{TwoWaySearcher}
-use Rattle.demands.specs.Reached.{Call, next, next-back, History, called, after, reached}
-use Rattle.twoway.specs.declared.Position.{Position}
-use Rattle.twoway.specs.Find.{searched, rfindRule}
+use Rattle.twoway.specs.Find.{searched, rfindRule, codeOf}
 
 -- the maximal suffix's start and period
-pub record Pair : Type 0 where
-  pub start : ℕ
-  pub period : ℕ
+abbrev pub pair : Bool → List ℕ → List ℕ
+pair g w = let r = rounds g (front w) none in r .start ∷ r .period ∷ []
 
-abbrev pub pair : Bool → List ℕ → Pair
-pair g w = record { start = rounds g (front w) none .start; period = rounds g (front w) none .period }
+-- Short is written as its two numbers, and Long as the empty list
+abbrev pub memory : Memory → List ℕ
+memory Long = []
+memory (Short ahead behind) = ahead ∷ behind ∷ []
 
--- what preparing settles: c, b, p and the kind of memory
-pub record Splits : Type 0 where
-  pub c : ℕ
-  pub b : ℕ
-  pub p : ℕ
-  pub memory : Memory
-
-abbrev pub splits : List ℕ → Splits
+-- what preparing settles: c, b, p and the memory
+abbrev pub splits : List ℕ → List ℕ
 splits needle =
-    let s = prepareRule needle 0 .walk in
-    record { c = s .«crit_pos»; b = s .«crit_pos_back»; p = s .period; memory = s .memory }
+    let s = newRule needle 0 .walk in
+    s .fixed .«crit_pos» ∷ s .fixed .«crit_pos_back» ∷ s .fixed .period ∷ memory (s .moving .memory)
 
--- the answers of so many steps in a row
-unfoldable pub answers : ℕ → (TwoWaySearcher → Stepped) → TwoWaySearcher → List Step
-answers zero rule s = []
-answers (suc more) rule s = rule s .answer ∷ answers more rule (rule s .walk)
+-- a Match is 1 with its two ends, a Reject 2 with its two, Done 3, and a refusal 4 with its number
+abbrev pub step : Step → List ℕ
+step (Step.Match a b) = 1 ∷ a ∷ b ∷ []
+step (Step.Reject a b) = 2 ∷ a ∷ b ∷ []
+step Step.Done = 3 ∷ []
+step (Step.Refused why) = 4 ∷ numberOf why ∷ []
 
-abbrev pub prepared : List ℕ → List ℕ → TwoWaySearcher
-prepared needle haystack = prepareRule needle (length haystack) .walk
+-- so many steps in a row
+unfoldable pub walk : ℕ → (TwoWaySearcher → Stepped) → TwoWaySearcher → List Stepped
+walk zero rule s = []
+walk (suc more) rule s = let r = rule s in r ∷ walk more rule (r .walk)
 
--- comparisons and tests of a direction's steps in a row
-pub record Cost : Type 0 where
-  pub comparisons : ℕ
-  pub tests : ℕ
+abbrev pub ahead : ℕ → List ℕ → List ℕ → List Stepped
+ahead k needle haystack = walk k (nextRule needle haystack) (newRule needle (length haystack) .walk)
 
-abbrev pub three-forward : History
-three-forward = reached nana banana (next ∷ next ∷ next ∷ [])
+abbrev pub behind : ℕ → List ℕ → List ℕ → List Stepped
+behind k needle haystack = walk k (nextBackRule needle haystack) (newRule needle (length haystack) .walk)
 
-abbrev pub three-backward : History
-three-backward = reached nana banana (next-back ∷ next-back ∷ next-back ∷ [])
+-- their answers one behind the other
+unfoldable pub answers : List Stepped → List ℕ
+answers [] = []
+answers (r ∷ rs) = step (r .answer) ++ answers rs
 
-pub record Table : Type 0 where
-  pub suffixes : List Pair
-  pub preparations : List Splits
-  pub preparing : ℕ
-  pub nana-forward : List Step
-  pub nana-forward-cost : Cost
-  pub nana-backward : List Step
-  pub nana-backward-cost : Cost
-  pub aa-forward : List Step
-  pub aa-backward : List Step
-  pub acba-last : Position
+-- and the comparisons and the tests that all of them made
+unfoldable pub made : List Stepped → ℕ → ℕ → List ℕ
+made [] comparisons tests = comparisons ∷ tests ∷ []
+made (r ∷ rs) comparisons tests = made rs (comparisons + r .counts .comparisons) (tests + r .counts .tests)
 
-abbrev pub computed : Table
-computed =
-    record {
-      suffixes = pair false aab ∷ pair true aab ∷ pair false gcagagag ∷ pair true gcagagag ∷ pair false banana ∷ pair true banana ∷ [];
-      preparations = splits (97 ∷ 97 ∷ 98 ∷ 97 ∷ 97 ∷ 98 ∷ [])
-          ∷ splits (97 ∷ 98 ∷ 97 ∷ 98 ∷ 97 ∷ 98 ∷ [])
-          ∷ splits acba
-          ∷ splits (97 ∷ 98 ∷ 100 ∷ 99 ∷ [])
-          ∷ splits (98 ∷ 97 ∷ 97 ∷ 98 ∷ 98 ∷ [])
-          ∷ [];
-      preparing = prepareRule nana 6 .counts .preparing;
-      nana-forward = answers 3 (nextRule nana banana) (prepared nana banana);
-      nana-forward-cost = record { comparisons = three-forward .forward .comparisons; tests = three-forward .forward .tests };
-      nana-backward = answers 3 (nextBackRule nana banana) (prepared nana banana);
-      nana-backward-cost = record { comparisons = three-backward .backward .comparisons; tests = three-backward .backward .tests };
-      aa-forward = answers 2 (nextRule aa aaa) (prepared aa aaa);
-      aa-backward = answers 2 (nextBackRule aa aaa) (prepared aa aaa);
-      acba-last = rfindRule xacbaacbxxcba acba .position;
-    }
+abbrev pub table : List Example
+table =
+    -- P1, maximal suffix of "aab": "false (2,1), true (0,3)"
+    record { computed = pair false aab ++ pair true aab; stated = 2 ∷ 1 ∷ 0 ∷ 3 ∷ [] }
+    -- P2, "gcagagag": "false (0,7), true (2,2)"
+    ∷ record { computed = pair false gcagagag ++ pair true gcagagag; stated = 0 ∷ 7 ∷ 2 ∷ 2 ∷ [] }
+    -- P3, "banana": "false (2,2), true (1,2)"
+    ∷ record { computed = pair false banana ++ pair true banana; stated = 2 ∷ 2 ∷ 1 ∷ 2 ∷ [] }
+    -- P4, prepare "aabaab": "c 2, b 5, p 3, Short", whose memories are "0 and m"
+    ∷ record { computed = splits (97 ∷ 97 ∷ 98 ∷ 97 ∷ 97 ∷ 98 ∷ []); stated = 2 ∷ 5 ∷ 3 ∷ 0 ∷ 6 ∷ [] }
+    -- P5, "ababab": "c 1, b 5, p 2, Short"
+    ∷ record { computed = splits (97 ∷ 98 ∷ 97 ∷ 98 ∷ 97 ∷ 98 ∷ []); stated = 1 ∷ 5 ∷ 2 ∷ 0 ∷ 6 ∷ [] }
+    -- P6, "acba": "c 1, b 2, p 3, Short"
+    ∷ record { computed = splits acba; stated = 1 ∷ 2 ∷ 3 ∷ 0 ∷ 4 ∷ [] }
+    -- P7, "abdc": "c 2, b 2, p 3, Long"
+    ∷ record { computed = splits (97 ∷ 98 ∷ 100 ∷ 99 ∷ []); stated = 2 ∷ 2 ∷ 3 ∷ [] }
+    -- P8, "baabb": "c 3, b 3, p 4, Long"
+    ∷ record { computed = splits (98 ∷ 97 ∷ 97 ∷ 98 ∷ 98 ∷ []); stated = 3 ∷ 3 ∷ 4 ∷ [] }
+    -- P9, "nana" in "banana", forward: "preparing 10; Reject(0,2), Match(2,6), Done; 6 comparisons, 2 tests"
+    ∷ record { computed = newRule nana 6 .counts .preparing ∷ []; stated = 10 ∷ [] }
+    ∷ record { computed = answers (ahead 3 nana banana); stated = 2 ∷ 0 ∷ 2 ∷ 1 ∷ 2 ∷ 6 ∷ 3 ∷ [] }
+    ∷ record { computed = made (ahead 3 nana banana) 0 0; stated = 6 ∷ 2 ∷ [] }
+    -- P10, same, backward: "Match(2,6), Reject(0,2), Done; 4 comparisons, 1 test"
+    ∷ record { computed = answers (behind 3 nana banana); stated = 1 ∷ 2 ∷ 6 ∷ 2 ∷ 0 ∷ 2 ∷ 3 ∷ [] }
+    ∷ record { computed = made (behind 3 nana banana) 0 0; stated = 4 ∷ 1 ∷ [] }
+    -- P11, "aa" in "aaa": "forward Match(0,2), Reject(2,3); backward Match(1,3), Reject(0,1)"
+    ∷ record { computed = answers (ahead 2 aa aaa); stated = 1 ∷ 0 ∷ 2 ∷ 2 ∷ 2 ∷ 3 ∷ [] }
+    ∷ record { computed = answers (behind 2 aa aaa); stated = 1 ∷ 1 ∷ 3 ∷ 2 ∷ 0 ∷ 1 ∷ [] }
+    -- P12, rfind "acba" in "xacbaacbxxcba": "1"
+    ∷ record { computed = codeOf (rfindRule xacbaacbxxcba acba .position) ∷ []; stated = 1 ∷ [] }
+    ∷ []
 
-abbrev pub stated : Table
-stated =
-    record {
-      -- P1 "aab": false (2,1), true (0,3). P2 "gcagagag": (0,7), (2,2). P3 "banana": (2,2), (1,2)
-      suffixes = record { start = 2; period = 1 }
-          ∷ record { start = 0; period = 3 }
-          ∷ record { start = 0; period = 7 }
-          ∷ record { start = 2; period = 2 }
-          ∷ record { start = 2; period = 2 }
-          ∷ record { start = 1; period = 2 }
-          ∷ [];
-      -- P4 "aabaab", P5 "ababab", P6 "acba": Short. P7 "abdc", P8 "baabb": Long
-      preparations = record { c = 2; b = 5; p = 3; memory = Memory.Short 0 6 }
-          ∷ record { c = 1; b = 5; p = 2; memory = Memory.Short 0 6 }
-          ∷ record { c = 1; b = 2; p = 3; memory = Memory.Short 0 4 }
-          ∷ record { c = 2; b = 2; p = 3; memory = Memory.Long }
-          ∷ record { c = 3; b = 3; p = 4; memory = Memory.Long }
-          ∷ [];
-      -- P9 "nana" in "banana", forward: preparing 10; Reject(0,2), Match(2,6), Done; 6 comparisons, 2 tests
-      preparing = 10;
-      nana-forward = Step.Reject 0 2 ∷ Step.Match 2 6 ∷ Step.Done ∷ [];
-      nana-forward-cost = record { comparisons = 6; tests = 2 };
-      -- P10 backward: Match(2,6), Reject(0,2), Done; 4 comparisons, 1 test
-      nana-backward = Step.Match 2 6 ∷ Step.Reject 0 2 ∷ Step.Done ∷ [];
-      nana-backward-cost = record { comparisons = 4; tests = 1 };
-      -- P11 "aa" in "aaa": forward Match(0,2), Reject(2,3); backward Match(1,3), Reject(0,1)
-      aa-forward = Step.Match 0 2 ∷ Step.Reject 2 3 ∷ [];
-      aa-backward = Step.Match 1 3 ∷ Step.Reject 0 1 ∷ [];
-      -- P12 rfind "acba" in "xacbaacbxxcba": 1
-      acba-last = Position.At 1;
-    }
-
-pub examples : computed ≡ stated
-unfolding firstFrom haystackBound needleBound bitOf into fingerprint has move run rounds forwardWindow backwardWindow forwardSearch backwardSearch fitsShort fitsLong fits chosen agree prepareShort prepareLong forwardRounds reverseRounds steps prepareRule refusal forward backward stepForward stepBackward nextRule nextBackRule nextMatchRule nextMatchBackRule called after searched answers
-examples = refl
+pub examples : T (all-as-stated table)
+unfolding all-as-stated same firstFrom haystackBound needleBound lengths bitOf into fingerprint has agreeing agree roundOn run rounds forwardWindow backwardWindow forwardSearch backwardSearch fitsShort fitsLong fits fitting chosen forwardRounds reverseRounds prepareShort prepareLong fiveSteps checks prepareRule refusal forward backward forwardCall backwardCall searched walk answers made
+examples = tt

@@ -1,22 +1,20 @@
 -- Whole searches: 01's "Whole searches and counts", and the codes of the C functions.
--- Assumes nothing.
-use Prim.Native.Nat.{ℕ, _+_, _-_, _^_}
-use mathlib.Core.Bool.{Bool, cond}
+-- `backward` says which of the two directions a search has. Assumes nothing.
+use Prim.Native.Nat.{ℕ, _-_, _^_}
+use mathlib.Core.Bool.{Bool, true, false, cond}
 use mathlib.Core.List.{List}
-use lib.Dec.{ltb, eqb}
+use lib.Dec.{eqb}
 use lib.ListN.{length, getD}
-use Rattle.limits.specs.Bounds.{haystackBound, needleBound}
+use Rattle.limits.specs.Checks.{lengths}
 use Rattle.limits.specs.Refusals.{numberOf}
-use Rattle.limits.specs.declared.Refusal.{Refusal}
-use Rattle.limits.specs.declared.Refusal.the-variants.{HaystackTooLong, NeedleTooLong}
+use Rattle.limits.specs.declared.Check.{Check}
 use Rattle.scan.specs.Scanned.{fromFront, fromBack}
 use Rattle.scan.specs.declared.Found.{Found}
 use Rattle.scan.specs.declared.Scan.{Scan}
-use Rattle.searcher.specs.Prepare.{prepareRule}
-use Rattle.searcher.specs.Walk.{nextMatchRule, nextMatchBackRule}
+use Rattle.searcher.specs.Walk.{newRule, nextMatchRule, nextMatchBackRule}
 use Rattle.searcher.specs.declared.NextMatch.{NextMatch}
 use Rattle.searcher.specs.declared.Matched.{Matched}
-use Rattle.searcher.specs.declared.Prepared.{Prepared}
+use Rattle.searcher.specs.declared.TwoWaySearcher.{TwoWaySearcher}
 use Rattle.twoway.specs.declared.Position.{Position}
 use Rattle.twoway.specs.declared.Answer.{Answer}
 
@@ -32,33 +30,45 @@ ofMatch (NextMatch.Match a b) = Position.At a
 ofMatch NextMatch.Nothing = Position.Nothing
 ofMatch (NextMatch.Refused why) = Position.Refused why
 
--- "One byte: a scan from the front or back"; "An empty or one-byte find prepares nothing and tests nothing"
+-- "Empty needle: find 0, rfind n."
+abbrev pub emptyPlace : Bool → ℕ → ℕ
+emptyPlace backward n = cond backward n 0
+
+-- "One byte: a scan from the front or back."
+abbrev pub scanOf : Bool → ℕ → List ℕ → Scan
+scanOf backward x text = cond backward (fromBack x text) (fromFront x text)
+
+-- "Otherwise prepare, then one next match."
+abbrev pub matchOf : Bool → List ℕ → List ℕ → TwoWaySearcher → Matched
+matchOf backward pattern text walk = cond backward (nextMatchBackRule pattern text walk) (nextMatchRule pattern text walk)
+
+-- "An empty or one-byte find prepares nothing and tests nothing"
 abbrev pub byScan : Scan → Answer
 byScan s = found (ofScan (s .found)) 0 (s .comparisons) 0
 
--- "Otherwise prepare, then one next match."
-abbrev pub byWalk : Prepared → Matched → Answer
-byWalk p r = found (ofMatch (r .answer)) (p .counts .preparing) (r .counts .comparisons) (r .counts .tests)
+abbrev pub byWalk : ℕ → Matched → Answer
+byWalk preparing r = found (ofMatch (r .answer)) preparing (r .counts .comparisons) (r .counts .tests)
 
--- Checks 1 and 2, in that order; then "Empty needle" at the place `empty`, one byte, and longer ones.
-unfoldable pub searched : List ℕ → List ℕ → ℕ → Scan → Matched → Answer
-searched text pattern empty scan walk =
-    cond (ltb haystackBound (length text))
-    (found (Position.Refused HaystackTooLong) 0 0 0)
-    (cond (ltb needleBound (length pattern))
-    (found (Position.Refused NeedleTooLong) 0 0 0)
+-- a refusal costs nothing
+abbrev pub orAnswer : Check → Answer → Answer
+orAnswer Check.Pass otherwise = otherwise
+orAnswer (Check.Refuse why) otherwise = found (Position.Refused why) 0 0 0
+
+-- Checks 1 and 2; then an empty pattern, one byte, and longer ones.
+unfoldable pub searched : Bool → List ℕ → List ℕ → Answer
+searched backward text pattern =
+    let p = newRule pattern (length text) in
+    let longer = byWalk (p .counts .preparing) (matchOf backward pattern text (p .walk)) in
+    orAnswer (lengths (length text) (length pattern))
     (cond (eqb (length pattern) 0)
-    (found (Position.At empty) 0 0 0)
-    (cond (eqb (length pattern) 1) (byScan scan) (byWalk (prepareRule pattern (length text)) walk))))
+    (found (Position.At (emptyPlace backward (length text))) 0 0 0)
+    (cond (eqb (length pattern) 1) (byScan (scanOf backward (getD pattern 0 0) text)) longer))
 
--- "Empty needle: find 0, rfind n."
 abbrev pub findRule : List ℕ → List ℕ → Answer
-findRule text pattern =
-    searched text pattern 0 (fromFront (getD pattern 0 0) text) (nextMatchRule pattern text (prepareRule pattern (length text) .walk))
+findRule text pattern = searched false text pattern
 
 abbrev pub rfindRule : List ℕ → List ℕ → Answer
-rfindRule text pattern =
-    searched text pattern (length text) (fromBack (getD pattern 0 0) text) (nextMatchBackRule pattern text (prepareRule pattern (length text) .walk))
+rfindRule text pattern = searched true text pattern
 
 -- "the position, or 2^64-1 for none, 2^64-2 for refusal 1, 2^64-3 for refusal 2"
 abbrev pub codeOf : Position → ℕ

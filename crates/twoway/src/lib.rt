@@ -1,13 +1,14 @@
 // Finding a pattern in a text, from the front and from the back, and the same for C.
+use limits::Check;
 use limits::Refusal;
 use scan::Found;
+use scan::Scan;
 use searcher::Counts;
+use searcher::Matched;
 use searcher::NextMatch;
 use searcher::TwoWaySearcher;
 ghost use mathlib.Core.Path.{_≡_};
-ghost use lib.ListN.{length};
-ghost use Rattle.searcher.specs.Walk.{nextMatchRule, nextMatchBackRule};
-ghost use Rattle.twoway.specs.Find.{ofScan, ofMatch, findRule, rfindRule, codeOf};
+ghost use Rattle.twoway.specs.Find.{ofScan, ofMatch, byScan, byWalk, findRule, rfindRule, codeOf};
 ghost use Rattle.twoway.specs.Meaning.{FindMeaning, RfindMeaning};
 
 // Where a search found the pattern, or why it did not look.
@@ -56,35 +57,45 @@ fn of_match(found: NextMatch) -> Position
     }
 }
 
-// The first occurrence of `pattern` in `text`.
+// What a scan answers, and what a walk's next match does, as the answer of a whole search.
+fn by_scan(s: Scan) -> Answer
+    ensures { λ r. ⌜ r ≡ byScan s ⌝ }
+{
+    let found = s.found;
+    answered(of_scan(found), 0, s.comparisons, 0)
+}
+
+fn by_walk(preparing: usize, r: Matched) -> Answer
+    ensures { λ a. ⌜ a ≡ byWalk preparing r ⌝ }
+{
+    let found = r.answer;
+    answered(
+        of_match(found),
+        preparing,
+        r.counts.comparisons,
+        r.counts.tests,
+    )
+}
+
+// The first occurrence of `pattern` in `text`. The two searches are written out: in one function for both, the compiler runs short of
+// registers in the loop over windows, and that loop takes two to three times as long.
 pub fn find_bytes(text: &[u8], pattern: &[u8]) -> Answer
     ensures rule { λ r. ⌜ r ≡ findRule (now (text .entry)) (now (pattern .entry)) ⌝ }
     ensures meaning { λ r. ⌜ FindMeaning (now (text .entry)) (now (pattern .entry)) r ⌝ }
 {
-    if limits::haystack_too_long(text.len()) {
-        return answered(Position::Refused(Refusal::HaystackTooLong), 0, 0, 0);
-    }
-    if limits::needle_too_long(pattern.len()) {
-        return answered(Position::Refused(Refusal::NeedleTooLong), 0, 0, 0);
+    let lengths = limits::check_lengths(text.len(), pattern.len());
+    if let Check::Refuse(why) = lengths {
+        return answered(Position::Refused(why), 0, 0, 0);
     }
     if pattern.len() == 0 {
         return answered(Position::At(0), 0, 0, 0);
     }
     if pattern.len() == 1 {
-        let s = scan::memchr(pattern[0], text);
-        let found = s.found;
-        return answered(of_scan(found), 0, s.comparisons, 0);
+        return by_scan(scan::memchr(pattern[0], text));
     }
     let p = TwoWaySearcher::new(pattern, text.len());
     let walk = p.walk;
-    let r = walk.next_match(text, pattern);
-    let found = r.answer;
-    answered(
-        of_match(found),
-        p.counts.preparing,
-        r.counts.comparisons,
-        r.counts.tests,
-    )
+    by_walk(p.counts.preparing, walk.next_match(text, pattern))
 }
 
 // The last occurrence of `pattern` in `text`.
@@ -92,30 +103,19 @@ pub fn rfind_bytes(text: &[u8], pattern: &[u8]) -> Answer
     ensures rule { λ r. ⌜ r ≡ rfindRule (now (text .entry)) (now (pattern .entry)) ⌝ }
     ensures meaning { λ r. ⌜ RfindMeaning (now (text .entry)) (now (pattern .entry)) r ⌝ }
 {
-    if limits::haystack_too_long(text.len()) {
-        return answered(Position::Refused(Refusal::HaystackTooLong), 0, 0, 0);
-    }
-    if limits::needle_too_long(pattern.len()) {
-        return answered(Position::Refused(Refusal::NeedleTooLong), 0, 0, 0);
+    let lengths = limits::check_lengths(text.len(), pattern.len());
+    if let Check::Refuse(why) = lengths {
+        return answered(Position::Refused(why), 0, 0, 0);
     }
     if pattern.len() == 0 {
         return answered(Position::At(text.len()), 0, 0, 0);
     }
     if pattern.len() == 1 {
-        let s = scan::memrchr(pattern[0], text);
-        let found = s.found;
-        return answered(of_scan(found), 0, s.comparisons, 0);
+        return by_scan(scan::memrchr(pattern[0], text));
     }
     let p = TwoWaySearcher::new(pattern, text.len());
     let walk = p.walk;
-    let r = walk.next_match_back(text, pattern);
-    let found = r.answer;
-    answered(
-        of_match(found),
-        p.counts.preparing,
-        r.counts.comparisons,
-        r.counts.tests,
-    )
+    by_walk(p.counts.preparing, walk.next_match_back(text, pattern))
 }
 
 // A position as the C functions give it: 2^64-1 for nothing, and 2^64-1-k for refusal number k.

@@ -273,14 +273,10 @@ module _ (x : Word) where
         repeats = λ i j hi hj f h. sym (p .repeats (x .size - (1 + j)) (x .size - (1 + i)) (omega arith) (omega arith) (omega arith) (omega arith));
       }
 
-module _ (x : Word) {c d : ℕ} (e : c + d ≡ x .size) where
-  pub mirror-repeat : {r : ℕ} → Repeat (mirror x) c r → Repeat x d r
-  mirror-repeat p = repeat-same (mirror-mirror x) (repeat-mirror (mirror x) e p)
+module _ (x : Word) where
+  pub mirror-repeat : {c d r : ℕ} → c + d ≡ x .size → Repeat (mirror x) c r → Repeat x d r
+  mirror-repeat e p = repeat-same (mirror-mirror x) (repeat-mirror (mirror x) e p)
 
-  pub mirror-critical : Critical (mirror x) c → Critical x d
-  mirror-critical v =
-      record { smallest = λ p r s q. v .smallest p r (smallest-mirror x s) (repeat-mirror x (omega arith) q) }
-
-pub critical-mirror : (x : Word) {c d : ℕ} → c + d ≡ x .size → Critical x c → Critical (mirror x) d
-critical-mirror x e v =
-    record { smallest = λ p r s q. v .smallest p r (mirror-smallest x s) (mirror-repeat x (omega arith) q) }
+  pub critical-mirror : {c d : ℕ} → c + d ≡ x .size → Critical x c → Critical (mirror x) d
+  critical-mirror e v =
+      record { smallest = λ p r s q. v .smallest p r (mirror-smallest x s) (mirror-repeat (omega arith) q) }

@@ -1,20 +1,20 @@
 -- The executable forms of specs/ agree with the properties beside which they stand, so that what they compute on an example is so.
 -- Assumes nothing.
 use Prim.Native.Nat.{ℕ, zero, suc, _+_, _-_, _<_, _≤_, min}
-use mathlib.Core.Path.{_≡_, refl, sym, _∙_, ap, subst}
+use mathlib.Core.Path.{_≡_, refl, sym, _∙_, ap}
 use mathlib.Core.Bool.{Bool, true, false, cond, not, _&&_, _||_}
 use mathlib.Core.Logic.{_⊎_, inl, inr, ⊎-elim}
-use mathlib.Core.List.{List, [], _∷_, map}
+use mathlib.Core.List.{List, [], _∷_}
 use native.Mathlib.Omega.{arith}
 use native.Mathlib.Decide.{decLt, decLe, ℕ-discrete}
 use lib.Dec.{ltb, leb, eqb}
-use borrow.Author.Tests.{ltb-true, ltb-false, leb-true, leb-false, eqb-true, eqb-false, lt-ltb, le-ltb, eq-eqb, ne-eqb, not-true, not-false}
+use borrow.Author.Tests.{ltb-true, ltb-false, leb-true, leb-false, eqb-true, lt-ltb, le-ltb, eq-eqb, ne-eqb, not-false}
 use Rattle.words.specs.Word.{Word, mirror, suffix}
-use Rattle.words.specs.Choice.{Least, None, every, firstFrom, least}
-use Rattle.words.specs.Occurs.{Occurs, occursb, OccursFrom, Leftmost, Rightmost, nextFrom, leftmost, rightmost}
+use Rattle.words.specs.Choice.{Least, None, every, least}
+use Rattle.words.specs.Occurs.{Occurs, occursb, OccursFrom, OccursBelow, Leftmost, Rightmost, nextFrom, leftmost, rightmost}
 use Rattle.words.specs.Period.{Period, SmallestPeriod, periodb, smallestPeriod, LocalRepeat, LocalPeriod, localRepeatb, localPeriod}
-use Rattle.words.specs.Order.{Below, below, Less, lessb, MaximalSuffix, maximalb, maximalSuffix}
-use Rattle.words.proofs.Tests.{Decides, First, first-is, refutes, least-at, least-none, decides-eq, decides-lt, decides-le, decides-and, decides-or, decides-not, decides-iff, decides-every, least-is, least-misses, least-alone}
+use Rattle.words.specs.Order.{Below, below, Less, lessb, MaximalSuffix, maximalb}
+use Rattle.words.proofs.Tests.{Decides, First, first-is, refutes, least-at, least-none, decides-eq, decides-lt, decides-le, decides-and, decides-or, decides-iff, decides-every, least-is, least-misses, least-alone, greatest-alone}
 use Rattle.words.proofs.Mirror.{rightmost-mirror}
 
 module _ (x h : Word) where
@@ -50,7 +50,7 @@ module _ (x h : Word) where
       refutes (occurs-decided j) (r .missed j (o .0) (omega arith)) (o .1)
 
   -- the computed list is the greedy one, where there is a gap and room for every hit
-  pub leftmost-is : (most gap a : ℕ) → 0 < gap → h .size + 1 ≤ most + a → Leftmost x h gap a (leftmost most x h gap a)
+  pub leftmost-is : (most gap a : ℕ) → 0 < gap → h .size < most + a + x .size → Leftmost x h gap a (leftmost most x h gap a)
   unfolding leftmost
   leftmost-is zero gap a pg room =
       let past : None (OccursFrom x h a) = λ j o. let f = o .1 .fits in let s = o .0 in absurd (omega arith) in
@@ -72,15 +72,26 @@ module _ (x h : Word) where
   leftmost-alone gap a (k ∷ ks) [] (Leftmost.hit o r) (Leftmost.over m) = absurd (m k (o .holds))
   leftmost-alone gap a (k ∷ ks) (l ∷ ls) (Leftmost.hit o r) (Leftmost.hit p q) =
       let e = least-alone (OccursFrom x h a) k l o p in
-      let rest = leftmost-alone gap (k + gap) ks ls r (subst (λ (y : ℕ). Leftmost x h gap (y + gap) ls) (sym e) q) in
+      let rest = leftmost-alone gap _ ks ls r (rw (← e) at q) in
       cc
 
+-- the same of the rightmost list
 module _ (x h : Word) where
-  pub rightmost-is : (most gap e : ℕ) → 0 < gap → gap ≤ x .size → e ≤ h .size → e < most → Rightmost x h gap e (rightmost most x h gap e)
+  pub rightmost-is : (most gap b : ℕ) → 0 < gap → b ≤ most → Rightmost x h gap b (rightmost most x h gap b)
   unfolding rightmost
-  rightmost-is most gap e pg hg he room =
-      rightmost-mirror x h gap e (h .size - e) (leftmost most (mirror x) (mirror h) gap (h .size - e)) pg hg he refl
-      (leftmost-is (mirror x) (mirror h) most gap (h .size - e) pg (omega arith))
+  rightmost-is most gap b pg room =
+      let a = h .size + 1 - (x .size + b) in
+      rightmost-mirror x h gap b a (leftmost most (mirror x) (mirror h) gap a) (λ k k′ e. omega arith)
+      (leftmost-is (mirror x) (mirror h) most gap a pg (omega arith))
+
+  pub rightmost-alone : (gap b : ℕ) (ks ls : List ℕ) → Rightmost x h gap b ks → Rightmost x h gap b ls → ks ≡ ls
+  rightmost-alone gap b [] [] (Rightmost.over m) (Rightmost.over n) = refl
+  rightmost-alone gap b [] (l ∷ ls) (Rightmost.over m) (Rightmost.hit o r) = absurd (m l (o .holds))
+  rightmost-alone gap b (k ∷ ks) [] (Rightmost.hit o r) (Rightmost.over m) = absurd (m k (o .holds))
+  rightmost-alone gap b (k ∷ ks) (l ∷ ls) (Rightmost.hit o r) (Rightmost.hit p q) =
+      let e = greatest-alone (OccursBelow x h b) k l o p in
+      let rest = rightmost-alone gap _ ks ls r (rw (← e) at q) in
+      cc
 
 module _ (x : Word) where
   pub period-decided : (r : ℕ) → Decides (Period x r) (periodb x r)
@@ -170,10 +181,6 @@ module _ (g : Bool) (u v : Word) where
   agree : (i : ℕ) → differ i ≡ false → u .letter i ≡ v .letter i
   unfolding differ
   agree i e = eqb-true (u .letter i) (v .letter i) (not-false (eqb (u .letter i) (v .letter i)) e)
-
-  differs : (i : ℕ) → differ i ≡ true → u .letter i ≡ v .letter i → ⊥
-  unfolding differ
-  differs i e = eqb-false (u .letter i) (v .letter i) (not-true (eqb (u .letter i) (v .letter i)) e)
 
   same-letters : (k : ℕ) → ((i : ℕ) → i < k → u .letter i ≡ v .letter i) → (i : ℕ) → i < k → differ i ≡ false
   unfolding differ

@@ -1,14 +1,12 @@
 -- Backward is forward in a mirror: an occurrence, a period and a walk's list, read from the other end.
 -- Assumes nothing.
-use Prim.Native.Nat.{ℕ, zero, suc, _+_, _-_, _<_, _≤_}
-use mathlib.Core.Path.{_≡_, refl, sym, _∙_, ap, subst}
-use mathlib.Core.List.{List, [], _∷_, map, reverse}
+use Prim.Native.Nat.{ℕ, _+_, _-_, _<_, _≤_}
+use mathlib.Core.Path.{_≡_, refl, sym, _∙_, ap}
+use mathlib.Core.List.{List, [], _∷_, map}
 use native.Mathlib.Omega.{arith}
-use native.Mathlib.Decide.{decLt, decLe}
-use lib.ListN.{length, getD, length-reverse}
-use Rattle.words.specs.Word.{Word, front, mirror, back}
+use Rattle.words.specs.Word.{Word, mirror}
 use Rattle.words.specs.Choice.{Least, Greatest, None}
-use Rattle.words.specs.Occurs.{Occurs, OccursFrom, OccursUpTo, Leftmost, Rightmost, turned}
+use Rattle.words.specs.Occurs.{Occurs, OccursFrom, OccursBelow, Leftmost, Rightmost, mirrored}
 use Rattle.words.specs.Period.{Period}
 
 -- two words with the same letters
@@ -20,19 +18,8 @@ pub record Same (x y : Word) : Type 0 where
 pub mirror-mirror : (x : Word) → Same (mirror (mirror x)) x
 mirror-mirror x = record { size = refl; letters = λ i h. ap (x .letter) (omega arith) }
 
--- occurrences and periods are those of the letters
-pub occurs-same : {x y g h : Word} {k : ℕ} → Same x y → Same g h → Occurs x g k → Occurs y h k
-occurs-same a b o =
-    let ea = a .size in
-    let eb = b .size in
-    let fo = o .fits in
-    record {
-      fits = omega arith;
-      same = λ i j hi e. sym (a .letters i (omega arith)) ∙ o .same i j (omega arith) e ∙ b .letters j (omega arith);
-    }
-
 module _ (x h : Word) where
-  pub occurs-mirror : (k : ℕ) → Occurs x h k → Occurs (mirror x) (mirror h) (turned x h k)
+  pub occurs-mirror : (k : ℕ) → Occurs x h k → Occurs (mirror x) (mirror h) (mirrored x h k)
   occurs-mirror k o =
       let f = o .fits in
       record {
@@ -40,10 +27,10 @@ module _ (x h : Word) where
         same = λ i j hi e. o .same (x .size - (1 + i)) (h .size - (1 + j)) (omega arith) (omega arith);
       }
 
-  turned-turned : (k : ℕ) → k + x .size ≤ h .size → turned x h (turned x h k) ≡ k
-  turned-turned k f = omega arith
+  mirrored-mirrored : (k : ℕ) → k + x .size ≤ h .size → mirrored x h (mirrored x h k) ≡ k
+  mirrored-mirrored k f = omega arith
 
-  pub mirror-occurs : (k : ℕ) → Occurs (mirror x) (mirror h) k → Occurs x h (turned x h k)
+  pub mirror-occurs : (k : ℕ) → Occurs (mirror x) (mirror h) k → Occurs x h (mirrored x h k)
   mirror-occurs k o =
       let f = o .fits in
       record {
@@ -51,62 +38,60 @@ module _ (x h : Word) where
         same = λ i j hi e. ap (x .letter) (omega arith) ∙ o .same (x .size - (1 + i)) (h .size - (1 + j)) (omega arith) (omega arith) ∙ ap (h .letter) (omega arith);
       }
 
-  module _ (e : ℕ) (he : e ≤ h .size) where
-    -- the occurrences that end at e or before it are those that start at n - e or after it in the mirror
-    up-to : (k : ℕ) → OccursFrom (mirror x) (mirror h) (h .size - e) k → OccursUpTo x h e (turned x h k)
-    up-to k o = let f = o .1 .fits in let a = o .0 in (omega arith, mirror-occurs k (o .1))
+  -- The starts below b are in the mirror those from a on: k letters before an occurrence, its own, and the k′ behind it are the whole of h.
+  -- So it is for b = n + 1 - (m + a), for a = n + 1 - (m + b), for b = n + 1 and a = 0, and, where nothing reaches past e, for b = e + 1 - m and a = n - e.
+  abbrev pub Facing : ℕ → ℕ → Type 0
+  Facing b a = (k k′ : ℕ) → k + k′ + x .size ≡ h .size → (k < b → a ≤ k′) × (a ≤ k′ → k < b)
 
-    from : (k : ℕ) → OccursUpTo x h e k → OccursFrom (mirror x) (mirror h) (h .size - e) (turned x h k)
-    from k o = let f = o .1 .fits in let a = o .0 in (omega arith, occurs-mirror k (o .1))
+  module _ (b a : ℕ) (facing : Facing b a) where
+    to-below : (k : ℕ) → OccursFrom (mirror x) (mirror h) a k → OccursBelow x h b (mirrored x h k)
+    to-below k o = let f = o .1 .fits in (facing (mirrored x h k) k (omega arith) .1 (o .0), mirror-occurs k (o .1))
 
-    pub least-greatest : (k : ℕ) → Least (OccursFrom (mirror x) (mirror h) (h .size - e)) k → Greatest (OccursUpTo x h e) (turned x h k)
+    to-from : (k : ℕ) → OccursBelow x h b k → OccursFrom (mirror x) (mirror h) a (mirrored x h k)
+    to-from k o = let f = o .1 .fits in (facing k (mirrored x h k) (omega arith) .0 (o .0), occurs-mirror k (o .1))
+
+    pub least-greatest : (k : ℕ) → Least (OccursFrom (mirror x) (mirror h) a) k → Greatest (OccursBelow x h b) (mirrored x h k)
     least-greatest k l =
         let f = l .holds .1 .fits in
         record {
-          holds = up-to k (l .holds);
-          none-after = λ j hj o. let fj = o .1 .fits in l .none-before (turned x h j) (omega arith) (from j o);
+          holds = to-below k (l .holds);
+          none-after = λ j hj o. let fj = o .1 .fits in l .none-before (mirrored x h j) (omega arith) (to-from j o);
         }
 
-    pub none-none : None (OccursFrom (mirror x) (mirror h) (h .size - e)) → None (OccursUpTo x h e)
-    none-none m k o = m (turned x h k) (from k o)
+    pub none-none : None (OccursFrom (mirror x) (mirror h) a) → None (OccursBelow x h b)
+    none-none m k o = m (mirrored x h k) (to-from k o)
 
     -- and the other way round
-    greatest-least : (k : ℕ) → Greatest (OccursUpTo x h e) k → Least (OccursFrom (mirror x) (mirror h) (h .size - e)) (turned x h k)
+    greatest-least : (k : ℕ) → Greatest (OccursBelow x h b) k → Least (OccursFrom (mirror x) (mirror h) a) (mirrored x h k)
     greatest-least k g =
         let f = g .holds .1 .fits in
         record {
-          holds = from k (g .holds);
-          none-before = λ j hj o. let fj = o .1 .fits in g .none-after (turned x h j) (omega arith) (up-to j o);
+          holds = to-from k (g .holds);
+          none-before = λ j hj o. let fj = o .1 .fits in g .none-after (mirrored x h j) (omega arith) (to-below j o);
         }
 
-    none-from : None (OccursUpTo x h e) → None (OccursFrom (mirror x) (mirror h) (h .size - e))
-    none-from m k o = m (turned x h k) (up-to k o)
+    none-from : None (OccursBelow x h b) → None (OccursFrom (mirror x) (mirror h) a)
+    none-from m k o = m (mirrored x h k) (to-below k o)
 
   -- the rightmost list is the leftmost one of the mirrored words, each place counted from the other end
-  pub rightmost-mirror : (gap e a : ℕ) (ks : List ℕ) → 0 < gap → gap ≤ x .size → e ≤ h .size → a ≡ h .size - e
-      → Leftmost (mirror x) (mirror h) gap a ks → Rightmost x h gap e (map (turned x h) ks)
-  rightmost-mirror gap e a [] pg hg he q (Leftmost.over m) =
-      Rightmost.over (none-none e he (subst (λ (b : ℕ). None (OccursFrom (mirror x) (mirror h) b)) q m))
-  rightmost-mirror gap e a (k ∷ ks) pg hg he q (Leftmost.hit l r) =
-      let lo = subst (λ (b : ℕ). Least (OccursFrom (mirror x) (mirror h) b) k) q l in
-      let f = lo .holds .1 .fits in
-      let e′ = turned x h k + x .size - gap in
-      Rightmost.hit (least-greatest e he k lo) (rightmost-mirror gap e′ (k + gap) ks pg hg (omega arith) (omega arith) r)
+  pub rightmost-mirror : (gap b a : ℕ) (ks : List ℕ) → Facing b a → Leftmost (mirror x) (mirror h) gap a ks → Rightmost x h gap b (map (mirrored x h) ks)
+  rightmost-mirror gap b a [] f (Leftmost.over m) = Rightmost.over (none-none b a f m)
+  rightmost-mirror gap b a (k ∷ ks) f (Leftmost.hit l r) =
+      let fits = l .holds .1 .fits in
+      Rightmost.hit (least-greatest b a f k l) (rightmost-mirror gap _ _ ks (λ i i′ e. omega arith) r)
 
   -- and the other way round
-  pub leftmost-mirror : (gap e a : ℕ) (ks : List ℕ) → gap ≤ x .size → e ≤ h .size → a ≡ h .size - e
-      → Rightmost x h gap e ks → Leftmost (mirror x) (mirror h) gap a (map (turned x h) ks)
-  leftmost-mirror gap e a [] hg he q (Rightmost.over m) = rw q (Leftmost.over (none-from e he m))
-  leftmost-mirror gap e a (k ∷ ks) hg he q (Rightmost.hit g r) =
-      let f = g .holds .1 .fits in
-      rw q
-      (Leftmost.hit (greatest-least e he k g) (leftmost-mirror gap (k + x .size - gap) (turned x h k + gap) ks hg (omega arith) (omega arith) r))
+  pub leftmost-mirror : (gap b a : ℕ) (ks : List ℕ) → Facing b a → Rightmost x h gap b ks → Leftmost (mirror x) (mirror h) gap a (map (mirrored x h) ks)
+  leftmost-mirror gap b a [] f (Rightmost.over m) = Leftmost.over (none-from b a f m)
+  leftmost-mirror gap b a (k ∷ ks) f (Rightmost.hit g r) =
+      let fits = g .holds .1 .fits in
+      Leftmost.hit (greatest-least b a f k g) (leftmost-mirror gap _ _ ks (λ i i′ e. omega arith) r)
 
   -- the places of a list, counted from the other end and back
-  pub rightmost-turned : (gap e : ℕ) (ks : List ℕ) → Rightmost x h gap e ks → map (turned x h) (map (turned x h) ks) ≡ ks
-  rightmost-turned gap e [] r = refl
-  rightmost-turned gap e (k ∷ ks) (Rightmost.hit g r) =
-      rw (turned-turned k (g .holds .1 .fits), rightmost-turned gap (k + x .size - gap) ks r)
+  pub rightmost-mirrored : (gap b : ℕ) (ks : List ℕ) → Rightmost x h gap b ks → map (mirrored x h) (map (mirrored x h) ks) ≡ ks
+  rightmost-mirrored gap b [] r = refl
+  rightmost-mirrored gap b (k ∷ ks) (Rightmost.hit g r) =
+      rw (mirrored-mirrored k (g .holds .1 .fits), rightmost-mirrored gap _ ks r)
 
 -- a period of the word is one of the word read from the back
 pub period-mirror : (x : Word) (r : ℕ) → Period x r → Period (mirror x) r

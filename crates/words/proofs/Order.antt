@@ -1,15 +1,14 @@
 -- The order on words is transitive and irreflexive, so only one suffix is maximal.
 -- Assumes nothing.
-use Prim.Native.Nat.{ℕ, _+_, _-_, _<_, _≤_}
-use mathlib.Core.Path.{_≡_, refl, sym, _∙_, ap, subst, subst₂}
+use Prim.Native.Nat.{ℕ, _+_, _<_, _≤_}
+use mathlib.Core.Path.{_≡_, refl, sym, _∙_, subst, subst₂}
 use mathlib.Core.Bool.{Bool, true, false}
-use mathlib.Core.Logic.{_⊎_, inl, inr, ⊎-elim}
+use mathlib.Core.Logic.{inl, inr, ⊎-elim}
 use native.Mathlib.Omega.{arith}
 use native.Mathlib.Decide.{decLt, ℕ-discrete}
 use Rattle.words.specs.Word.{Word, suffix}
-use Rattle.words.specs.Choice.{least}
 use Rattle.words.specs.Order.{Below, Less, MaximalSuffix, maximalb, maximalSuffix}
-use Rattle.words.proofs.Tests.{Decides, refuted, least-at, least-is, least-misses}
+use Rattle.words.proofs.Tests.{refuted, least-at}
 use Rattle.words.proofs.Decided.{maximal-decided}
 
 pub below-trans : (g : Bool) (a b c : ℕ) → Below g a b → Below g b c → Below g a c
@@ -87,14 +86,6 @@ module _ (g : Bool) (x : Word) where
       elim (ℕ-discrete s t) [
         | yes e ↦ e
         | no e ↦ absurd (less-irrefl g (suffix x s) (less-trans g (suffix x s) (suffix x t) (suffix x s) (b .greatest s (a .within) e) (a .greatest t (b .within) (λ y. e (sym y)))))
-      ]
-
-  -- the maximal suffix of a word that has letters is not the empty one
-  pub maximal-inside : (s : ℕ) → 0 < x .size → MaximalSuffix g x s → s < x .size
-  maximal-inside s h m =
-      elim (decLt s (x .size)) [
-        | yes y ↦ y
-        | no y ↦ let l = m .greatest 0 (omega arith) (λ e. let w = m .within in omega arith) .more in absurd (omega arith)
       ]
 
   -- the computed start is the maximal suffix's

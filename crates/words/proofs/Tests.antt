@@ -2,13 +2,13 @@
 -- Assumes nothing.
 use Prim.Native.Nat.{ℕ, zero, suc, _+_, _-_, _<_, _≤_}
 use mathlib.Core.Path.{_≡_, refl, sym, _∙_, ap, subst}
-use mathlib.Core.Bool.{Bool, true, false, cond, not, _&&_, _||_, true≢false, false≢true}
+use mathlib.Core.Bool.{Bool, true, false, cond, _&&_, _||_, true≢false, false≢true}
 use mathlib.Core.Logic.{_⊎_, inl, inr, ⊎-elim}
 use native.Mathlib.Omega.{arith}
 use native.Mathlib.Decide.{decLt}
 use lib.Dec.{ltb, leb, eqb}
-use borrow.Author.Tests.{ltb-true, ltb-false, leb-true, leb-false, eqb-true, eqb-false, lt-ltb, le-ltb, le-leb, eq-eqb, ne-eqb}
-use Rattle.words.specs.Choice.{Least, Greatest, None, every, firstFrom, least}
+use borrow.Author.Tests.{ltb-true, leb-true, eqb-true, lt-ltb, le-leb, eq-eqb}
+use Rattle.words.specs.Choice.{Least, Greatest, every, firstFrom, least}
 
 -- the test b is true exactly if P holds
 pub record Decides (P : Type 0) (b : Bool) : Type 0 where
@@ -45,10 +45,6 @@ decides-or false b p q =
       sound = λ e. inr (q .sound e);
       complete = λ h. ⊎-elim (λ y. absurd (false≢true (p .complete y))) (q .complete) h;
     }
-
-pub decides-not : {P : Type 0} (a : Bool) → Decides P a → Decides (P → ⊥) (not a)
-decides-not true p = record { sound = λ e. absurd (false≢true e); complete = λ h. absurd (h (p .sound refl)) }
-decides-not false p = record { sound = λ e y. false≢true (p .complete y); complete = λ h. refl }
 
 -- the same test decides what is equivalent
 pub decides-iff : {P Q : Type 0} {b : Bool} → (P → Q) → (Q → P) → Decides P b → Decides Q b
@@ -129,6 +125,23 @@ module _ (f : ℕ → Bool) where
 
   pub least-none : (n : ℕ) → ((j : ℕ) → j < n → f j ≡ false) → least n f ≡ n
   least-none n m = first-none n 0 (λ j l h. m j (omega arith)) ∙ omega arith
+
+-- a search from i on and one from i′ on that meet the same answers end equally far on
+pub first-moved : (f f′ : ℕ → Bool) (n n′ i i′ : ℕ) → n ≡ n′ → ((j j′ : ℕ) → i ≤ j → j < i + n → j + i′ ≡ j′ + i → f j ≡ f′ j′)
+    → firstFrom n i f + i′ ≡ firstFrom n′ i′ f′ + i
+first-moved f f′ n n′ i i′ e same =
+    let k = firstFrom n i f in
+    let k′ = k - i + i′ in
+    let r = first-is f n i in
+    let moved : First f′ n′ i′ k′ =
+    record {
+      low = omega arith;
+      high = omega arith;
+      found = λ h. sym (same k k′ (r .low) (omega arith) (omega arith)) ∙ r .found (omega arith);
+      missed = λ j a b. sym (same (j - i′ + i) j (omega arith) (omega arith) (omega arith)) ∙ r .missed (j - i′ + i) (omega arith) (omega arith);
+    } in
+    let alone = first-alone f′ n′ i′ k′ (firstFrom n′ i′ f′) moved (first-is f′ n′ i′) in
+    omega arith
 
 -- of two least numbers, or two greatest, there is only one
 pub least-alone : (P : ℕ → Type 0) (a b : ℕ) → Least P a → Least P b → a ≡ b

@@ -2,7 +2,7 @@
 -- Beside them the executable forms, in which a test stands for the property; proofs/Decided.antt shows that they agree.
 -- Assumes nothing.
 use Prim.Native.Nat.{ℕ, zero, suc, _+_, _<_}
-use mathlib.Core.Bool.{Bool, true, false, cond, _&&_}
+use mathlib.Core.Bool.{Bool, true, cond, _&&_}
 use mathlib.Core.Option.{Option, none, some}
 
 -- P holds of k, and of no number before it

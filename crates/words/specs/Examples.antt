@@ -1,10 +1,10 @@
 -- 01's examples, computed from the definitions of this crate alone: one table under one claim.
 -- The letters are ASCII: "a" is 97. Assumes nothing.
-use Prim.Native.Nat.{ℕ}
+use Prim.Native.Nat.{ℕ, _+_}
 use mathlib.Core.Bool.{Bool, true, false, _&&_}
 use mathlib.Core.List.{List, [], _∷_}
 use lib.Dec.{T, eqb}
-use Rattle.words.specs.Word.{Word, front, back, suffix}
+use Rattle.words.specs.Word.{front, back, suffix}
 use Rattle.words.specs.Choice.{every, firstFrom}
 use Rattle.words.specs.Occurs.{occursb, nextFrom, leftmost, rightmost}
 use Rattle.words.specs.Period.{periodb, smallestPeriod, localRepeatb, localPeriod}
@@ -38,12 +38,19 @@ aaa = 97 ∷ aa
 abbrev pub split : Bool → List ℕ → List ℕ
 split g w = maximalSuffix g (front w) ∷ smallestPeriod (suffix (front w) (maximalSuffix g (front w))) ∷ []
 
--- the places of the matches that a whole walk lists, forward and backward
+-- the places that a whole walk lists at a gap, forward and backward
+abbrev pub forwardBy : ℕ → List ℕ → List ℕ → List ℕ
+forwardBy gap x h = leftmost 100 (front x) (front h) gap 0
+
+abbrev pub backwardBy : ℕ → List ℕ → List ℕ → List ℕ
+backwardBy gap x h = rightmost 100 (front x) (front h) gap (front h .size + 1)
+
+-- at the needle's size, so that no two overlap
 abbrev pub forward : List ℕ → List ℕ → List ℕ
-forward x h = leftmost 100 (front x) (front h) (front x .size) 0
+forward x h = forwardBy (front x .size) x h
 
 abbrev pub backward : List ℕ → List ℕ → List ℕ
-backward x h = rightmost 100 (front x) (front h) (front x .size) (front h .size)
+backward x h = backwardBy (front x .size) x h
 
 -- what the definitions give, beside what 01 says
 pub record Example : Type 0 where
@@ -77,6 +84,11 @@ table =
     -- a walk lists what does not overlap: "aa" in "aaaa", and "a" in "banana"
     ∷ record { computed = forward aa (97 ∷ aaa); stated = 0 ∷ 2 ∷ [] }
     ∷ record { computed = backward (97 ∷ []) banana; stated = 5 ∷ 3 ∷ 1 ∷ [] }
+    -- at a gap of 1 it lists every occurrence: "aa" in "aaaa", and the empty word in "aaa"
+    ∷ record { computed = forwardBy 1 aa (97 ∷ aaa); stated = 0 ∷ 1 ∷ 2 ∷ [] }
+    ∷ record { computed = backwardBy 1 aa (97 ∷ aaa); stated = 2 ∷ 1 ∷ 0 ∷ [] }
+    ∷ record { computed = forwardBy 1 [] aaa; stated = 0 ∷ 1 ∷ 2 ∷ 3 ∷ [] }
+    ∷ record { computed = backwardBy 1 [] aaa; stated = 3 ∷ 2 ∷ 1 ∷ 0 ∷ [] }
     -- the local period as 01's sentence has it: of "banana" at 2, and of "ab" at 1
     ∷ record { computed = localPeriod (front banana) 2 ∷ localPeriod (front (97 ∷ 98 ∷ [])) 1 ∷ []; stated = 2 ∷ 1 ∷ [] }
     ∷ []

@@ -21,20 +21,21 @@ occursb x h k = leb (k + x .size) (h .size) && every (x .size) (λ i. eqb (x .le
 abbrev pub OccursFrom : Word → Word → ℕ → ℕ → Type 0
 OccursFrom x h a k = (a ≤ k) × Occurs x h k
 
--- an occurrence that ends at e or before it
-abbrev pub OccursUpTo : Word → Word → ℕ → ℕ → Type 0
-OccursUpTo x h e k = (k + x .size ≤ e) × Occurs x h k
+-- an occurrence that starts before b
+abbrev pub OccursBelow : Word → Word → ℕ → ℕ → Type 0
+OccursBelow x h b k = (k < b) × Occurs x h k
 
 -- The greedy leftmost list from a on: the least occurrence from a on, and then the list from `gap` past its start on.
--- The occurrences that do not overlap are those at a gap of x's size.
+-- The occurrences that do not overlap are those at a gap of x's size; at a gap of 1 the list has every occurrence. A whole list starts at 0.
 pub data Leftmost (x h : Word) (gap : ℕ) : ℕ → List ℕ → Type 0 where
   over : {a : ℕ} → None (OccursFrom x h a) → Leftmost x h gap a []
   hit : {a k : ℕ} {ks : List ℕ} → Least (OccursFrom x h a) k → Leftmost x h gap (k + gap) ks → Leftmost x h gap a (k ∷ ks)
 
--- The greedy rightmost list up to e: the greatest occurrence up to e, and then the list up to `gap` before its end.
+-- The greedy rightmost list below b: the greatest occurrence that starts below b, and then the list of those that start `gap` or more before it.
+-- A whole list starts at b = n + 1, which is above every start: an empty word occurs at n too.
 pub data Rightmost (x h : Word) (gap : ℕ) : ℕ → List ℕ → Type 0 where
-  over : {e : ℕ} → None (OccursUpTo x h e) → Rightmost x h gap e []
-  hit : {e k : ℕ} {ks : List ℕ} → Greatest (OccursUpTo x h e) k → Rightmost x h gap (k + x .size - gap) ks → Rightmost x h gap e (k ∷ ks)
+  over : {b : ℕ} → None (OccursBelow x h b) → Rightmost x h gap b []
+  hit : {b k : ℕ} {ks : List ℕ} → Greatest (OccursBelow x h b) k → Rightmost x h gap (k + 1 - gap) ks → Rightmost x h gap b (k ∷ ks)
 
 -- the least occurrence from a on, or a number that is above h's size
 unfoldable pub nextFrom : Word → Word → ℕ → ℕ
@@ -49,9 +50,9 @@ leftmost (suc most) x h gap a =
     cond (leb k (h .size)) hits []
 
 -- where an occurrence stands, counted from the other end
-abbrev pub turned : Word → Word → ℕ → ℕ
-turned x h k = h .size - (k + x .size)
+abbrev pub mirrored : Word → Word → ℕ → ℕ
+mirrored x h k = h .size - (k + x .size)
 
--- the rightmost list, computed: the leftmost one of the words read from the back
+-- the rightmost list, computed: the leftmost one of the words read from the back. What starts below b starts there at n + 1 - (m + b) or after it.
 unfoldable pub rightmost : ℕ → Word → Word → ℕ → ℕ → List ℕ
-rightmost most x h gap e = map (turned x h) (leftmost most (mirror x) (mirror h) gap (h .size - e))
+rightmost most x h gap b = map (mirrored x h) (leftmost most (mirror x) (mirror h) gap (h .size + 1 - (x .size + b)))

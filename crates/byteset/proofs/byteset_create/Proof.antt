@@ -19,8 +19,8 @@ loop-holds : tie.Need-loop-holds Inv-loop μ-loop
 unfolding fingerprint
 loop-holds c = search needs
 
-shared-slice-read-bit-of : tie.Need-shared-slice-read-bit-of Inv-loop μ-loop
-shared-slice-read-bit-of c = search needs
+letter-requires : tie.Need-letter-requires Inv-loop μ-loop
+letter-requires c κs = search needs
 
 bit-of-requires : tie.Need-bit-of-requires Inv-loop μ-loop
 bit-of-requires c κs = search needs
@@ -47,7 +47,7 @@ byteset-create-spec =
     Inv-loop
     μ-loop
     loop-holds
-    shared-slice-read-bit-of
+    letter-requires
     bit-of-requires
     shl-byteset
     add-i

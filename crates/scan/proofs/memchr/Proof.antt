@@ -1,34 +1,31 @@
 -- `scan::memchr` meets its contract. The loop's invariant: none of the letters passed is x, of the text read from the front.
 -- Assumes nothing.
-use Prim.Native.Nat.{_≤_, _-_}
+use Prim.Native.Nat.{_-_}
 use native.Mathlib.Omega.{arith}
-use borrow.Author.Count.{below-more}
+use borrow.Author.Needs.{needs}
 use lib.ListN.{length}
 use Rattle.words.specs.Word.{front}
-use Rattle.scan.proofs.Laws.{Missed, scanned-hit, scanned-miss, front-settled}
+use Rattle.scan.proofs.Laws.{Missed, missed-none, missed-more, front-hit, front-miss}
 use Rattle.scan.proofs.memchr.Statement.{statement}
 use Rattle.scan.proofs.memchr.Tie as tie
 
 abbrev Inv-loop : tie.InvT-loop
-Inv-loop x text n at₀ at = (at ≤ length text) × Missed x (front text) at
+Inv-loop x text at₀ at = Missed x (front text) at
 
 abbrev μ-loop : tie.MeasureT-loop
-μ-loop x text n at₀ at = length text - at
+μ-loop x text at₀ at = length text - at
 
 loop-holds : tie.Need-loop-holds Inv-loop μ-loop
-loop-holds c = (omega arith, λ j h. absurd (omega arith))
+loop-holds c = missed-none
 
-shared-slice-read-if1 : tie.Need-shared-slice-read-if1 Inv-loop μ-loop
-shared-slice-read-if1 c = omega arith
+letter-requires : tie.Need-letter-requires Inv-loop μ-loop
+letter-requires c κs = omega arith
 
-add-t9 : tie.Need-add-t9 Inv-loop μ-loop
-add-t9 c = omega arith
+add-t8 : tie.Need-add-t8 Inv-loop μ-loop
+add-t8 c = omega arith
 
 returns : tie.Need-returns Inv-loop μ-loop
-returns c =
-    let loop = c .before .before .before .loop in
-    let text = c .before .before .before .before .args .text .now in
-    front-settled _ text _ (scanned-hit _ (front text) _ (loop .at) (omega arith) (c .if1 .taken) (loop .inv .1))
+returns c = front-hit _ (c .before .before .before .before .before .args .text .now) (search needs) (omega arith) (c .if1 .taken) (search needs)
 
 add-at : tie.Need-add-at Inv-loop μ-loop
 add-at c = omega arith
@@ -37,13 +34,10 @@ loop-less : tie.Need-loop-less Inv-loop μ-loop
 loop-less c = omega arith
 
 loop-again : tie.Need-loop-again Inv-loop μ-loop
-loop-again c = (omega arith, below-more _ _ (c .before .before .before .loop .inv .1) (c .if1 .left))
+loop-again c = missed-more (c .if1 .left) (search needs) (search needs) (omega arith)
 
 returns-2 : tie.Need-returns-2 Inv-loop μ-loop
-returns-2 c =
-    let loop = c .before .loop in
-    let text = c .before .before .args .text .now in
-    front-settled _ text _ (scanned-miss _ (front text) _ (λ j h. loop .inv .1 j (omega arith)))
+returns-2 c = front-miss _ (c .before .before .before .args .text .now) (c .before .loop .inv) (omega arith)
 
 pub memchr-spec : {M : Type 1} → statement M
 memchr-spec =
@@ -52,8 +46,8 @@ memchr-spec =
     Inv-loop
     μ-loop
     loop-holds
-    shared-slice-read-if1
-    add-t9
+    letter-requires
+    add-t8
     returns
     add-at
     loop-less

@@ -1,8 +1,6 @@
 -- `twoway::code` meets its contract.
 -- Assumes nothing.
-use mathlib.Core.Path.{_≡_, refl, sym, _∙_, ap}
-use Prim.Native.Nat.{ℕ, _-_, _^_}
-use Rattle.twoway.specs.Find.{codeOf}
+use Rattle.twoway.proofs.Laws.{code-refused}
 use borrow.Author.Needs.{needs}
 use Rattle.twoway.proofs.code.Statement.{statement}
 use Rattle.twoway.proofs.code.Tie as tie
@@ -32,7 +30,7 @@ returns-2 : tie.Need-returns-2
 returns-2 c = search needs
 
 returns-3 : tie.Need-returns-3
-returns-3 c = ap (λ (k : ℕ). 2 ^ 64 - 1 - k) (c .number .ensures) ∙ sym (ap codeOf (c .before .before .position2 .given .1))
+returns-3 c = search (needs, code-refused)
 
 pub code-spec : {M : Type 1} → statement M
 code-spec =

@@ -1,7 +1,6 @@
 -- `twoway::of_match` meets its contract.
 -- Assumes nothing.
-use mathlib.Core.Path.{_≡_, refl, sym, _∙_, ap}
-use Rattle.twoway.specs.Find.{ofMatch}
+use Rattle.twoway.proofs.Laws.{match-at, match-refused}
 use borrow.Author.Needs.{needs}
 use Rattle.twoway.proofs.of_match.Statement.{statement}
 use Rattle.twoway.proofs.of_match.Tie as tie
@@ -16,13 +15,13 @@ enum-known-found-2 : tie.Need-enum-known-found-2
 enum-known-found-2 c = search needs
 
 returns : tie.Need-returns
-returns c = sym (ap ofMatch (c .before .found .given .1))
+returns c = search (needs, match-at)
 
 returns-2 : tie.Need-returns-2
 returns-2 c = search needs
 
 returns-3 : tie.Need-returns-3
-returns-3 c = sym (ap ofMatch (c .before .found2 .given .1))
+returns-3 c = search (needs, match-refused)
 
 pub of-match-spec : {M : Type 1} → statement M
 of-match-spec =

@@ -1,7 +1,6 @@
 -- `twoway::of_scan` meets its contract.
 -- Assumes nothing.
-use mathlib.Core.Path.{_≡_, refl, sym, _∙_, ap}
-use Rattle.twoway.specs.Find.{ofScan}
+use Rattle.twoway.proofs.Laws.{scan-at}
 use borrow.Author.Needs.{needs}
 use Rattle.twoway.proofs.of_scan.Statement.{statement}
 use Rattle.twoway.proofs.of_scan.Tie as tie
@@ -13,7 +12,7 @@ enum-told : tie.Need-enum-told
 enum-told c = search needs
 
 returns : tie.Need-returns
-returns c = sym (ap ofScan (c .before .found .given .1))
+returns c = search (needs, scan-at)
 
 returns-2 : tie.Need-returns-2
 returns-2 c = search needs

@@ -1,8 +1,6 @@
 -- `twoway::twoway_find` meets its contract.
 -- Assumes nothing.
-use mathlib.Core.Path.{_≡_, refl, sym, _∙_, ap}
-use Rattle.twoway.specs.declared.Answer.{Answer}
-use Rattle.twoway.specs.Find.{codeOf}
+use Rattle.twoway.proofs.Laws.{coded}
 use borrow.Author.Needs.{needs}
 use Rattle.twoway.proofs.twoway_find.Statement.{statement}
 use Rattle.twoway.proofs.twoway_find.Tie as tie
@@ -14,7 +12,7 @@ code-requires : tie.Need-code-requires
 code-requires c κs = search needs
 
 returns : tie.Need-returns
-returns c = c .code .ensures ∙ ap (λ (r : Answer). codeOf (r .position)) (c .before .find-bytes .ensures .0)
+returns c = search (needs, coded)
 
 pub twoway-find-spec : {M : Type 1} → statement M
 twoway-find-spec = tie.close (tie.spec find-bytes-requires code-requires returns)

@@ -1,8 +1,6 @@
 -- `twoway::twoway_rfind` meets its contract.
 -- Assumes nothing.
-use mathlib.Core.Path.{_≡_, refl, sym, _∙_, ap}
-use Rattle.twoway.specs.declared.Answer.{Answer}
-use Rattle.twoway.specs.Find.{codeOf}
+use Rattle.twoway.proofs.Laws.{coded}
 use borrow.Author.Needs.{needs}
 use Rattle.twoway.proofs.twoway_rfind.Statement.{statement}
 use Rattle.twoway.proofs.twoway_rfind.Tie as tie
@@ -14,7 +12,7 @@ code-requires : tie.Need-code-requires
 code-requires c κs = search needs
 
 returns : tie.Need-returns
-returns c = c .code .ensures ∙ ap (λ (r : Answer). codeOf (r .position)) (c .before .rfind-bytes .ensures .0)
+returns c = search (needs, coded)
 
 pub twoway-rfind-spec : {M : Type 1} → statement M
 twoway-rfind-spec = tie.close (tie.spec rfind-bytes-requires code-requires returns)

@@ -1,4 +1,4 @@
--- `walk::run` is safe and ends. The loop's invariant: both rooms keep their lengths, and the line is within its room. The measure is the number of turns that are left.
+-- `walk::run` is safe and ends. The loop's invariant: the room keeps its length, and the line is within its room. The measure is the number of reads that are left.
 -- Assumes nothing.
 use Prim.Native.Nat.{_≤_}
 use mathlib.Core.Path.{_≡_}
@@ -8,10 +8,10 @@ use Rattle.walk.proofs.run.Statement.{statement}
 use Rattle.walk.proofs.run.Tie as tie
 
 abbrev Inv-loop : tie.InvT-loop
-Inv-loop line₀ out₀ at₀ turns₀ line out at turns = (length line ≡ length line₀) × (length out ≡ length out₀) × (at ≤ length line)
+Inv-loop line₀ at₀ reads₀ line at reads = (length line ≡ length line₀) × (at ≤ length line)
 
 abbrev μ-loop : tie.MeasureT-loop
-μ-loop line₀ out₀ at₀ turns₀ line out at turns = turns
+μ-loop line₀ at₀ reads₀ line at reads = reads
 
 loop-holds : tie.Need-loop-holds Inv-loop μ-loop
 loop-holds c = search needs
@@ -19,8 +19,8 @@ loop-holds c = search needs
 read-some-requires : tie.Need-read-some-requires Inv-loop μ-loop
 read-some-requires c κs = search needs
 
-sub-turns : tie.Need-sub-turns Inv-loop μ-loop
-sub-turns c = search needs
+sub-reads : tie.Need-sub-reads Inv-loop μ-loop
+sub-reads c = search needs
 
 loop-less : tie.Need-loop-less Inv-loop μ-loop
 loop-less c = search needs
@@ -37,12 +37,6 @@ same-length-2 c = search needs
 returns : tie.Need-returns Inv-loop μ-loop
 returns c = search needs
 
-same-length-3 : tie.Need-same-length-3 Inv-loop μ-loop
-same-length-3 c = search needs
-
-same-length-4 : tie.Need-same-length-4 Inv-loop μ-loop
-same-length-4 c = search needs
-
 returns-2 : tie.Need-returns-2 Inv-loop μ-loop
 returns-2 c = search needs
 
@@ -54,12 +48,10 @@ run-spec =
     μ-loop
     loop-holds
     read-some-requires
-    sub-turns
+    sub-reads
     loop-less
     loop-again
     same-length
-    same-length-2
     returns
-    same-length-3
-    same-length-4
+    same-length-2
     returns-2)

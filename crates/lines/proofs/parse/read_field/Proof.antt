@@ -12,7 +12,7 @@ read-number-requires : tie.Need-read-number-requires
 read-number-requires c κs = search needs
 
 returns : tie.Need-returns
-returns c = c .read-number .ensures ∙ ap (numberAt (c .before .before .before .before .args .s .now)) (c .before .skip .ensures)
+returns c = c .read-number .ensures ∙ ap (numberAt (c .before .before .before .args .s .now)) (c .before .skip .ensures)
 
 pub read-field-spec : {M : Type 1} → statement M
 read-field-spec = tie.close (tie.spec skip-requires read-number-requires returns)

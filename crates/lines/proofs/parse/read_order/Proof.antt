@@ -4,9 +4,6 @@ use Rattle.lines.proofs.Laws.{order-zero, order-one}
 use Rattle.lines.proofs.parse.read_order.Statement.{statement}
 use Rattle.lines.proofs.parse.read_order.Tie as tie
 
-slice-aggregate-skip : tie.Need-slice-aggregate-skip
-slice-aggregate-skip c = search needs
-
 skip-requires : tie.Need-skip-requires
 skip-requires c κs = search needs
 
@@ -19,25 +16,20 @@ returns c = order-zero _ _ _ (c .before .before .skip .ensures) _ (c .enum-told 
 enum-told-2 : tie.Need-enum-told-2
 enum-told-2 c = search needs
 
-slice-aggregate-skip-2 : tie.Need-slice-aggregate-skip-2
-slice-aggregate-skip-2 c = search needs
-
 skip-requires-2 : tie.Need-skip-requires-2
 skip-requires-2 c κs = search needs
 
 returns-2 : tie.Need-returns-2
 returns-2 c =
-    order-one _ _ _ (c .before .before .before .before .skip .ensures) _ (c .before .before .enum-told2 .given .1) (c .skip2 .ensures)
+    order-one _ _ _ (c .before .before .before .skip .ensures) _ (c .before .enum-told2 .given .1) (c .skip2 .ensures)
 
 pub read-order-spec : {M : Type 1} → statement M
 read-order-spec =
     tie.close
     (tie.spec
-    slice-aggregate-skip
     skip-requires
     enum-told
     returns
     enum-told-2
-    slice-aggregate-skip-2
     skip-requires-2
     returns-2)

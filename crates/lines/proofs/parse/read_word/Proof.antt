@@ -25,9 +25,6 @@ Inv-loop s into₀ from at₀ len₀ into at len =
 abbrev μ-loop : tie.MeasureT-loop
 μ-loop s into₀ from at₀ len₀ into at len = length into - len
 
-slice-aggregate-skip : tie.Need-slice-aggregate-skip Inv-loop μ-loop
-slice-aggregate-skip c = search needs
-
 skip-requires : tie.Need-skip-requires Inv-loop μ-loop
 skip-requires c κs = search needs
 
@@ -36,7 +33,7 @@ enum-told c = search needs
 
 returns : tie.Need-returns Inv-loop μ-loop
 returns c =
-    let args = c .before .before .before .before .before .before .args in
+    let args = c .before .before .before .before .before .args in
     (omega arith, word-dash (args .s .now) (args .into .now) (args .c) _ (c .before .before .skip .ensures) _ (c .enum-told .given .1))
 
 enum-told-2 : tie.Need-enum-told-2 Inv-loop μ-loop
@@ -50,14 +47,14 @@ enum-told-3 c = search needs
 
 returns-2 : tie.Need-returns-2 Inv-loop μ-loop
 returns-2 c =
-    let args = c .before .before .before .before .before .before .before .before .args in (
+    let args = c .before .before .before .before .before .before .before .args in (
       omega arith,
       word-lost (args .s .now) (args .into .now) (args .c) _ (c .before .before .before .before .skip .ensures) (c .before .before .enum-told2 .given .1) (c .enum-told3 .given .1),
     )
 
 loop-holds : tie.Need-loop-holds Inv-loop μ-loop
 loop-holds c =
-    let args = c .before .before .before .before .before .before .before .before .before .args in
+    let args = c .before .before .before .before .before .before .before .before .args in
     let begins = word-begins (args .into .now) (args .s .now) (c .before .c .given .0 .0) in
     (omega arith, omega arith, omega arith, begins .0, begins .1)
 
@@ -75,7 +72,7 @@ loop-less c = simp length-set (omega arith)
 
 loop-again : tie.Need-loop-again Inv-loop μ-loop
 loop-again c =
-    let s = c .before .before .before .before .before .before .before .before .before .before .before .before .before .args .s .now in
+    let s = c .before .before .before .before .before .before .before .before .before .before .before .before .args .s .now in
     let loop = c .before .before .before .loop in
     let inv = loop .inv in
     let byte = c .before .read-byte in
@@ -91,9 +88,9 @@ loop-again c =
 
 -- whichever way the loop was left, no byte is left to be read
 stops : (c : tie.Left-loop Inv-loop μ-loop)
-    → bytesFrom (length (c .before .loop .into) - c .before .loop .len) (c .before .before .before .before .before .before .before .before .before .before .before .args .s .now) (c .before .loop .at) ≡ []
+    → bytesFrom (length (c .before .loop .into) - c .before .loop .len) (c .before .before .before .before .before .before .before .before .before .before .args .s .now) (c .before .loop .at) ≡ []
 stops c =
-    let s = c .before .before .before .before .before .before .before .before .before .before .before .args .s .now in
+    let s = c .before .before .before .before .before .before .before .before .before .before .args .s .now in
     let loop = c .before .loop in
     ⊎-elim
     (λ w. bytes-full (length (loop .into) - loop .len) s (loop .at) (omega arith))
@@ -105,7 +102,7 @@ same-length c = search needs
 
 returns-3 : tie.Need-returns-3 Inv-loop μ-loop
 returns-3 c =
-    let args = c .before .before .before .before .before .before .before .before .before .before .before .before .args in
+    let args = c .before .before .before .before .before .before .before .before .before .before .before .args in
     let from = c .before .before .before .before .c .given in
     let loop = c .before .before .loop in
     let inv = loop .inv in (
@@ -126,7 +123,7 @@ same-length-2 c = search needs
 
 returns-4 : tie.Need-returns-4 Inv-loop μ-loop
 returns-4 c =
-    let args = c .before .before .before .before .before .before .before .before .before .before .before .before .args in
+    let args = c .before .before .before .before .before .before .before .before .before .before .before .args in
     let from = c .before .before .before .before .c .given in
     let loop = c .before .before .loop in
     let inv = loop .inv in (
@@ -148,7 +145,6 @@ read-word-spec =
     (tie.spec
     Inv-loop
     μ-loop
-    slice-aggregate-skip
     skip-requires
     enum-told
     returns

@@ -1,0 +1,4 @@
+pub mod Chosen
+pub mod Ways
+pub mod Ready
+pub mod Guiding

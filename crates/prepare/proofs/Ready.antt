@@ -1,0 +1,183 @@
+-- What preparing answers: for every needle that is not refused a state that fits, at the two ends of the haystack, and a count of at most nine for each letter;
+-- for one that is refused, a record that fits nothing.
+-- Assumes nothing.
+use Prim.Native.Nat.{ℕ, _+_, _-_, _*_, _<_, _≤_, min, max}
+use mathlib.Core.Path.{_≡_, refl}
+use mathlib.Core.Bool.{Bool, true, false, cond}
+use mathlib.Core.Logic.{inl, inr}
+use mathlib.Core.List.{List}
+use mathlib.Core.Option.{some}
+use native.Mathlib.Omega.{arith}
+use native.Mathlib.Decide.{decLt}
+use lib.Dec.{ltb}
+use lib.ListN.{length}
+use borrow.Author.Tests.{ltb-true, ltb-false}
+use Rattle.words.specs.Word.{Word, front, back, mirror}
+use Rattle.words.specs.Period.{Period, SmallestPeriod, smallestPeriod}
+use Rattle.words.specs.Order.{MaximalSuffix}
+use Rattle.words.specs.Critical.{LaterStart}
+use Rattle.words.proofs.Decided.{smallestPeriod-is}
+use Rattle.words.proofs.Mirror.{period-mirror}
+use Rattle.words.proofs.Critical.{later-start, split-below, smallest-mirror}
+use Rattle.limits.specs.declared.Refusal.{Refusal}
+use Rattle.suffix.specs.Rounds.{rounds}
+use Rattle.suffix.proofs.Maximal.{known-found}
+use Rattle.prepare.specs.declared.Preparation.the-variants.{Ready}
+use Rattle.prepare.specs.declared.Parts.{Parts}
+use Rattle.record.specs.Fits.{fits}
+use Rattle.prepare.specs.Prepare.{chosen, agreed, forwardRounds, prepareShort, prepareLong, fiveSteps, refuse}
+use Rattle.record.specs.Kinds.{forwardCursor, backwardCursor}
+use Rattle.prepare.proofs.Chosen.{chosen-split, chosen-fits, chosen-short, chosen-long, forward-few, reverse-few}
+use Rattle.record.proofs.Fitting.{StateFits, decides-fits}
+
+-- ---- the two kinds
+
+-- the later start of the reverse passes
+abbrev pub reverseStart : List ℕ → ℕ → ℕ
+reverseStart needle p = max (rounds false (back needle) (some p) .start) (rounds true (back needle) (some p) .start)
+
+-- Short: the period p is the word's smallest, and the start d, from the back, is the later one of the word read from the back
+pub record IsShort (x : Word) (c p d : ℕ) : Type 0 where
+  pub later : LaterStart x c
+  pub smallest-is : SmallestPeriod x p
+  pub back-later : LaterStart (mirror x) d
+
+-- Long: the smallest period is above both parts
+pub record IsLong (x : Word) (c : ℕ) : Type 0 where
+  pub later : LaterStart x c
+  pub positive : 0 < c
+  pub inside : c < x .size
+  pub smallest : ℕ
+  pub smallest-is : SmallestPeriod x smallest
+  pub ahead : c < smallest
+  pub back-ahead : x .size - c < smallest
+
+-- with a period of the needle known, both reverse passes find the true start
+reverse-later : (needle : List ℕ) (p : ℕ) → Period (front needle) p → LaterStart (back needle) (reverseStart needle p)
+reverse-later needle p period =
+    later-start lower higher
+    (elim (decLt (rounds true (back needle) (some p) .start) (rounds false (back needle) (some p) .start)) [
+      | yes h ↦ inl (omega arith)
+      | no h ↦ inr (omega arith)
+    ])
+  where
+    lower : MaximalSuffix false (back needle) (rounds false (back needle) (some p) .start)
+    lower = known-found false (back needle) p (period-mirror (front needle) p period) .maximal
+
+    higher : MaximalSuffix true (back needle) (rounds true (back needle) (some p) .start)
+    higher = known-found true (back needle) p (period-mirror (front needle) p period) .maximal
+
+module _ (needle : List ℕ) where
+  abbrev c : ℕ
+  c = chosen needle .start
+
+  abbrev p : ℕ
+  p = chosen needle .period
+
+  -- the pairs that step 2 compares, the differing one included
+  abbrev pairs : ℕ
+  pairs = min (agreed needle c p + 1) c
+
+  module _ (pos : 0 < length needle) where
+    is-short : c ≤ agreed needle c p → IsShort (front needle) c p (reverseStart needle p)
+    is-short h =
+        let s = chosen-short needle pos h in
+        record { later = chosen-split needle pos .later; smallest-is = s; back-later = reverse-later needle p (s .holds) }
+
+    is-long : agreed needle c p < c → IsLong (front needle) c
+    is-long h =
+        let split = chosen-split needle pos in
+        let period = split .period .holds .positive in
+        let least = smallestPeriod-is (front needle) pos in
+        let above = chosen-long needle pos h least in
+        record {
+          later = split .later;
+          positive = above .0;
+          inside = omega (arith, chosen-fits needle pos);
+          smallest = smallestPeriod (front needle);
+          smallest-is = least;
+          ahead = above .1;
+          back-ahead = above .2;
+        }
+
+  -- what is shown of both kinds holds of every prepared state
+  pub by-kind : (n : ℕ) (P : Parts → Type 0) → 0 < length needle
+      → (IsLong (front needle) c → P (prepareLong needle n c (forwardRounds needle + pairs)))
+      → (IsShort (front needle) c p (reverseStart needle p) → P (prepareShort needle n c p (forwardRounds needle + pairs)))
+      → P (fiveSteps needle n)
+  unfolding fiveSteps
+  by-kind n P pos long short = go (ltb (agreed needle c p) c) refl
+    where
+      go : (b : Bool) → ltb (agreed needle c p) c ≡ b
+          → P
+          (cond b
+          (prepareLong needle n c (forwardRounds needle + pairs))
+          (prepareShort needle n c p (forwardRounds needle + pairs)))
+      go true e = long (is-long pos (ltb-true _ _ e))
+      go false e = short (is-short pos (ltb-false _ _ e))
+
+-- ---- what every prepared state is
+
+module _ (needle : List ℕ) (pos : 0 < length needle) where
+  -- "Ready": within the bounds, and not empty, no needle is refused
+  pub prepared-ready : (n : ℕ) → fiveSteps needle n .answer ≡ Ready
+  unfolding prepareShort prepareLong
+  prepared-ready n = by-kind needle n (λ r. r .answer ≡ Ready) pos (λ k. refl) (λ k. refl)
+
+  -- 5. "`position` 0, `end` n", and 3. "memories are 0 and m"
+  pub prepared-start : (n : ℕ) → forwardCursor (fiveSteps needle n .moving) ≡ record { at = 0; memory = 0 }
+  unfolding prepareShort prepareLong
+  prepared-start n = by-kind needle n (λ r. forwardCursor (r .moving) ≡ record { at = 0; memory = 0 }) pos (λ k. refl) (λ k. refl)
+
+  pub prepared-start-back : (n : ℕ) → backwardCursor (length needle) (fiveSteps needle n .moving) ≡ record { at = n; memory = length needle }
+  unfolding prepareShort prepareLong
+  prepared-start-back n =
+      by-kind needle n (λ r. backwardCursor (length needle) (r .moving) ≡ record { at = n; memory = length needle }) pos (λ k. refl) (λ k. refl)
+
+  -- Every prepared state fits: a critical split is below the smallest period, in both directions.
+  pub prepared-fits : (haystack : List ℕ) → let r = fiveSteps needle (length haystack) in fits needle haystack (r .fixed) (r .moving) ≡ true
+  unfolding prepareShort prepareLong
+  prepared-fits haystack =
+      decides-fits needle haystack (fiveSteps needle (length haystack) .fixed) (fiveSteps needle (length haystack) .moving) .complete
+      (by-kind needle (length haystack) (λ r. StateFits needle haystack (r .fixed) (r .moving)) pos
+      (λ k. omega arith)
+      (λ k.
+      let ahead = split-below (k .later) (k .smallest-is) in
+      let back-ahead = split-below (k .back-later) (smallest-mirror (front needle) (k .smallest-is)) in
+      let within = k .smallest-is .holds .within in
+      record {
+        needle-is = refl;
+        haystack-is = refl;
+        position-in = omega arith;
+        end-in = omega arith;
+        splits = record {
+          ahead = ahead;
+          period-in = within;
+          back-ahead = omega arith;
+          back-in = omega arith;
+          forward-is = inl refl;
+          backward-is = inl refl;
+        };
+      }))
+
+  -- Four passes of at most 2m rounds each, and at most c pairs, which is below m.
+  pub preparing-few : (n : ℕ) → fiveSteps needle n .counts .preparing ≤ 9 * length needle
+  unfolding prepareShort prepareLong
+  preparing-few n =
+      let a = forward-few needle in
+      let b = reverse-few needle (p needle) in
+      by-kind needle n (λ r. r .counts .preparing ≤ 9 * length needle) pos
+      (λ k. omega arith)
+      (λ k. omega (arith, chosen-fits needle pos))
+
+-- ---- what is handed back where nothing is prepared
+
+-- Long's split is at least 1, so this record fits no needle, the empty one included.
+pub refused-fits-nothing : (why : Refusal) (needle haystack : List ℕ) → fits needle haystack (refuse why .fixed) (refuse why .moving) ≡ false
+refused-fits-nothing why needle haystack = go _ refl
+  where
+    go : (b : Bool) → fits needle haystack (refuse why .fixed) (refuse why .moving) ≡ b → b ≡ false
+    go false e = refl
+    go true e =
+        let k = decides-fits needle haystack (refuse why .fixed) (refuse why .moving) .sound e in
+        absurd (omega arith)

@@ -1,0 +1,14 @@
+-- `record::kinds::backward_plan` meets its contract.
+-- Assumes nothing.
+use borrow.Author.Needs.{needs}
+use Rattle.record.proofs.kinds.backward_plan.Statement.{statement}
+use Rattle.record.proofs.kinds.backward_plan.Tie as tie
+
+backward-period-memory-requires : tie.Need-backward-period-memory-requires
+backward-period-memory-requires c κs = search needs
+
+returns : tie.Need-returns
+returns c = rw (c .backward-period-memory .ensures)
+
+pub backward-plan-spec : {M : Type 1} → statement M
+backward-plan-spec = tie.close (tie.spec backward-period-memory-requires returns)

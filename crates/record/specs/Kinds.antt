@@ -1,0 +1,71 @@
+-- What the record is to each direction of a walk: what it goes by, where it stands, and the record once it has moved.
+-- This is the one place that tells the kinds of memory apart for a walk. Assumes nothing.
+use Prim.Native.Nat.{ℕ, _-_}
+use Rattle.windows.specs.declared.Plan.{Plan}
+use Rattle.windows.specs.declared.Cursor.{Cursor}
+use Rattle.record.specs.declared.Memory.{Memory}
+use Rattle.record.specs.declared.Memory.the-variants.{Long, Short}
+use Rattle.record.specs.declared.Fixed.{Fixed}
+use Rattle.record.specs.declared.Moving.{Moving}
+
+-- "Long has none" (read as 0 forward and m backward), Short has a number for each.
+abbrev pub forwardMemory : Memory → ℕ
+forwardMemory Long = 0
+forwardMemory (Short forward backward) = forward
+
+abbrev pub backwardMemory : ℕ → Memory → ℕ
+backwardMemory m Long = m
+backwardMemory m (Short forward backward) = backward
+
+-- "In either direction only Short sets memory"; "Neither direction changes the other's cursor or memory."
+abbrev pub setForward : ℕ → Memory → Memory
+setForward k Long = Long
+setForward k (Short forward backward) = Short k backward
+
+abbrev pub setBackward : ℕ → Memory → Memory
+setBackward k Long = Long
+setBackward k (Short forward backward) = Short forward k
+
+-- the memory that a difference in the second part sets: "sets memory m-p", backward "memory p"
+abbrev pub forwardPeriodMemory : ℕ → ℕ → Memory → ℕ
+forwardPeriodMemory m p Long = 0
+forwardPeriodMemory m p (Short forward backward) = m - p
+
+abbrev pub backwardPeriodMemory : ℕ → ℕ → Memory → ℕ
+backwardPeriodMemory m p Long = m
+backwardPeriodMemory m p (Short forward backward) = p
+
+-- what a walk goes by in each direction; a match: "move by m, memory 0", backward "down by m, memory m"
+abbrev pub forwardPlan : ℕ → Fixed → Memory → Plan
+forwardPlan m f memory =
+    record {
+      split = f .«crit_pos»;
+      period = f .period;
+      «period_memory» = forwardPeriodMemory m (f .period) memory;
+      shift = m;
+      «shift_memory» = 0;
+    }
+
+abbrev pub backwardPlan : ℕ → Fixed → Memory → Plan
+backwardPlan m f memory =
+    record {
+      split = f .«crit_pos_back»;
+      period = f .period;
+      «period_memory» = backwardPeriodMemory m (f .period) memory;
+      shift = m;
+      «shift_memory» = m;
+    }
+
+-- where it stands
+abbrev pub forwardCursor : Moving → Cursor
+forwardCursor s = record { at = s .position; memory = forwardMemory (s .memory) }
+
+abbrev pub backwardCursor : ℕ → Moving → Cursor
+backwardCursor m s = record { at = s .end; memory = backwardMemory m (s .memory) }
+
+-- the record with one direction moved to a cursor
+abbrev pub movedForward : Moving → Cursor → Moving
+movedForward s k = record { position = k .at; end = s .end; memory = setForward (k .memory) (s .memory) }
+
+abbrev pub movedBackward : Moving → Cursor → Moving
+movedBackward s k = record { position = s .position; end = k .at; memory = setBackward (k .memory) (s .memory) }

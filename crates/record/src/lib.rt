@@ -1,0 +1,42 @@
+// The record of a walk in its two parts: what preparing fixes and what a walk moves. What each direction reads and sets in them, and
+// when they fit. No function here asks anything of its arguments.
+mod fit;
+mod kinds;
+
+pub use fit::fits;
+pub use kinds::backward_cursor;
+pub use kinds::backward_plan;
+pub use kinds::forward_cursor;
+pub use kinds::forward_plan;
+pub use kinds::moved_backward;
+pub use kinds::moved_forward;
+
+// What a walk remembers of the window before: nothing where the needle's period is long, else a number for each direction.
+pub enum Memory {
+    Long,
+    Short { forward: usize, backward: usize },
+}
+
+// What preparing fixes. No call of a walk changes it.
+pub struct Fixed {
+    pub needle_len: usize,
+    pub haystack_len: usize,
+    pub crit_pos: usize,
+    pub crit_pos_back: usize,
+    pub period: usize,
+    pub byteset: u64,
+}
+
+// What a walk moves: where each direction stands, and what it remembers.
+pub struct Moving {
+    pub position: usize,
+    pub end: usize,
+    pub memory: Memory,
+}
+
+// What a call cost: rounds and pairs of preparing, comparisons of needle with haystack, and tests of the fingerprint.
+pub struct Counts {
+    pub preparing: usize,
+    pub comparisons: usize,
+    pub tests: usize,
+}

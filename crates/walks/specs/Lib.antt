@@ -1,5 +1,0 @@
-pub mod Window
-pub mod Search
-pub mod Mirror
-pub mod Meaning
-pub mod Bounds

@@ -1,1 +1,0 @@
-// Theory only: the rules of a walk, one direction at a time, and what they mean. See specs/.

@@ -1,0 +1,6 @@
+pub mod Ways
+pub mod Windows
+pub mod Meaning
+pub mod Searches
+pub mod Counts
+pub mod Mirror
