@@ -1,6 +1,6 @@
 // Comparing the needle with a window of the haystack, which starts at `at`, from an index up and from an index down.
 // The count of comparisons follows from the index where a loop ends, so that no loop counts. They go by an index of the whole needle, and
-// not by parts of the two: the loop over windows is then half as long.
+// not by parts of the two, with which a search took half as long again.
 ghost use mathlib.Core.Path.{_≡_};
 ghost use Prim.Native.Nat.{_+_, _<_, _≤_};
 ghost use lib.ListN.{length};

@@ -78,7 +78,7 @@ fn by_walk(preparing: usize, r: Matched) -> Answer
 }
 
 // The first occurrence of `pattern` in `text`. The two searches are written out: in one function for both, the compiler runs short of
-// registers in the loop over windows, and that loop takes two to three times as long.
+// registers in the loops over windows, and a search takes up to a quarter longer.
 pub fn find_bytes(text: &[u8], pattern: &[u8]) -> Answer
     ensures rule { λ r. ⌜ r ≡ findRule (now (text .entry)) (now (pattern .entry)) ⌝ }
     ensures meaning { λ r. ⌜ FindMeaning (now (text .entry)) (now (pattern .entry)) r ⌝ }
