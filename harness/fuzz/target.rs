@@ -10,17 +10,19 @@
 mod fence;
 
 use fence::Fence;
-use harness::naive;
-use port::Found;
+use harness::port::{self, Found};
+use harness::{judge, naive};
 use std::cell::RefCell;
 
 thread_local! {
     static FENCES: RefCell<[Fence; 2]> = RefCell::new([Fence::new(), Fence::new()]);
 }
 
+/// # Safety
+///
+/// libFuzzer hands in `size` bytes and leaves them alone during the call.
 #[no_mangle]
-pub extern "C" fn LLVMFuzzerTestOneInput(data: *const u8, size: usize) -> i32 {
-    // libFuzzer hands in that many bytes and leaves them alone during the call.
+pub unsafe extern "C" fn LLVMFuzzerTestOneInput(data: *const u8, size: usize) -> i32 {
     let input = if size == 0 { &[] } else { unsafe { std::slice::from_raw_parts(data, size) } };
     let (length, rest) = input.split_at(size.min(2));
     let length = length.iter().fold(0, |length, &byte| length * 256 + usize::from(byte));
@@ -33,9 +35,8 @@ pub extern "C" fn LLVMFuzzerTestOneInput(data: *const u8, size: usize) -> i32 {
 
 /// Panics where the answers differ, which ends the run.
 fn held(text: &[u8], pattern: &[u8], backward: bool) {
-    let search = if backward { twoway::rfind_bytes } else { twoway::find_bytes };
-    let (rust, meant) = (search(text, pattern), naive::meant(pattern, text, backward));
-    assert_eq!(rust, meant, "the Rust and the meaning");
+    let rust = judge::found(pattern, text, backward);
+    assert_eq!(rust, naive::meant(pattern, text, backward), "the Rust and the meaning");
     let wanted = rust.map_or(Found::Nothing, Found::At);
     FENCES.with_borrow_mut(|[texts, patterns]| {
         for last in [false, true] {

@@ -1,14 +1,16 @@
-//! Times find and rfind against the Rust with plain scans and, forward, against glibc's memmem.
+//! Times find and rfind against the Rust with plain scans, against glibc's memmem, which searches
+//! forward only, and against the crate memchr.
 //!
 //! No needle occurs in its text, so all 64 MiB are walked. Each round times every row of the
-//! table once, the three of a row in turn; the best of the rounds counts. Prints milliseconds
-//! and ratios; status 1 if something is found.
+//! table once, the searchers of a row in turn; the best of the rounds counts. Prints milliseconds
+//! and ratios, and what is left out; status 1 if something is found.
 
 use harness::case::Word;
-use harness::model::HAYSTACK_BOUND;
+use harness::limits::HAYSTACK_BOUND;
+use harness::original::{self, Search};
+use harness::port::{self, Found};
 use harness::program;
 use harness::words::{self, Dice};
-use port::Found;
 use std::ffi::c_long;
 use std::hint::black_box;
 use std::process::ExitCode;
@@ -24,35 +26,91 @@ const SEED: u64 = 64;
 /// The byte that stands nowhere in the trace.
 const ABSENT: u8 = 0xee;
 
-const HEAD: &str = "\
-| text | needle | direction | ours, ms | Rust, ms | memmem, ms | ours/Rust | ours/memmem |
-|---|---|---|---|---|---|---|---|";
+/// Whether the text holds the needle.
+type Occurs = Box<dyn Fn(&[u8], &[u8]) -> bool>;
 
-/// One needle in one text one way, with the best times in milliseconds; memmem's counts only
-/// forward.
+/// What is timed, forward and backward, if it can do that.
+struct Searcher {
+    name: &'static str,
+    ways: [Option<Occurs>; 2],
+}
+
+/// One needle in one text one way, with the best time of each searcher in milliseconds.
 struct Row<'a> {
     name: &'static str,
     text: &'a [u8],
     needle: Word,
     backward: bool,
-    ours: f64,
-    rust: f64,
-    memmem: f64,
+    best: Vec<Option<f64>>,
 }
 
 fn main() -> ExitCode {
     let (trace, run) = (trace(&mut Dice::new(SEED)), words::power(b"a", HAYSTACK_BOUND));
-    let mut rows = rows(&trace, &run);
+    let (searchers, mut rows) = (searchers(), rows(&trace, &run));
     let mut found = false;
     for _ in 0..ROUNDS {
-        found |= rows.iter_mut().fold(false, |found, row| row.time() | found);
+        found |= rows.iter_mut().fold(false, |found, row| row.time(&searchers) | found);
     }
-    println!("{HEAD}");
+    print_head(&searchers);
     rows.iter().for_each(Row::print);
+    print_left_out();
     if found {
         println!("DIFFERENCE: a needle that does not occur was found");
     }
     program::status(!found)
+}
+
+/// Those that are at hand, ours first.
+fn searchers() -> Vec<Searcher> {
+    let ours: [Option<Occurs>; 2] = [
+        Some(Box::new(|text, needle| port::find(text, needle) != Found::Nothing)),
+        Some(Box::new(|text, needle| port::rfind(text, needle) != Found::Nothing)),
+    ];
+    let ways = |search: fn(bool) -> Option<Search>| {
+        [false, true].map(|backward| {
+            let search = search(backward)?;
+            Some(Box::new(move |text: &[u8], needle: &[u8]| search(text, needle).is_some())
+                as Occurs)
+        })
+    };
+    let mut searchers = vec![
+        Searcher { name: "ours", ways: ours },
+        Searcher { name: "Rust", ways: ways(original::search) },
+        Searcher { name: "memmem", ways: [Some(Box::new(occurs)), None] },
+        Searcher { name: "memchr 2.5", ways: ways(memchr) },
+    ];
+    searchers.retain(|searcher| searcher.ways.iter().any(Option::is_some));
+    searchers
+}
+
+/// The crate memchr's search, if its source was at hand when this was built.
+#[cfg(memchr_crate)]
+fn memchr(backward: bool) -> Option<Search> {
+    extern crate memchr_crate;
+    Some(if backward { memchr_crate::memmem::rfind } else { memchr_crate::memmem::find })
+}
+
+#[cfg(not(memchr_crate))]
+fn memchr(_: bool) -> Option<Search> {
+    None
+}
+
+fn print_head(searchers: &[Searcher]) {
+    let times = searchers.iter().map(|searcher| format!("{}, ms", searcher.name));
+    let ratios = searchers[1..].iter().map(|searcher| format!("ours/{}", searcher.name));
+    let columns: Vec<String> = times.chain(ratios).collect();
+    println!("| text | needle | direction | {} |", columns.join(" | "));
+    println!("|---|---|---|{}", "---|".repeat(columns.len()));
+}
+
+fn print_left_out() {
+    if let Some(folder) = program::NO_ORIGINAL {
+        println!("Rust is left out: {folder}/src/lib.rs is missing (TWOWAY_SRC names its folder)");
+    }
+    if let Some(folder) = program::NO_MEMCHR {
+        print!("memchr 2.5 is left out: {folder}/src/lib.rs is missing ");
+        println!("(Debian: librust-memchr-dev; MEMCHR_SRC names another folder)");
+    }
 }
 
 fn rows<'a>(trace: &'a [u8], run: &'a [u8]) -> Vec<Row<'a>> {
@@ -75,43 +133,46 @@ fn rows<'a>(trace: &'a [u8], run: &'a [u8]) -> Vec<Row<'a>> {
 
 impl<'a> Row<'a> {
     fn new(name: &'static str, text: &'a [u8], needle: Word, backward: bool) -> Row<'a> {
-        let (ours, rust, memmem) = (f64::MAX, f64::MAX, f64::MAX);
-        Row { name, text, needle, backward, ours, rust, memmem }
+        Row { name, text, needle, backward, best: Vec::new() }
     }
 
     /// One round. True if something is found.
-    fn time(&mut self) -> bool {
-        let (text, needle) = (self.text, &self.needle);
-        let ours = if self.backward { port::rfind } else { port::find };
-        let rust = if self.backward { twoway::rfind_bytes } else { twoway::find_bytes };
-        let mut found = timed(&mut self.ours, || ours(text, needle) != Found::Nothing);
-        found |= timed(&mut self.rust, || rust(text, needle).is_some());
-        if !self.backward {
-            found |= timed(&mut self.memmem, || occurs(text, needle));
+    fn time(&mut self, searchers: &[Searcher]) -> bool {
+        self.best.resize(searchers.len(), None);
+        let mut found = false;
+        for (searcher, best) in searchers.iter().zip(&mut self.best) {
+            if let Some(occurs) = &searcher.ways[usize::from(self.backward)] {
+                found |= timed(best, || occurs(self.text, &self.needle));
+            }
         }
         found
     }
 
     fn print(&self) {
-        let Row { name, ours, rust, memmem, .. } = self;
-        let (direction, peer, ratio) = if self.backward {
-            ("backward", String::new(), String::new())
-        } else {
-            ("forward", format!("{memmem:.1}"), format!("{:.2}", ours / memmem))
-        };
-        let (m, over_rust) = (self.needle.len(), ours / rust);
-        print!("| {name} | {m} | {direction} | {ours:.1} | {rust:.1} | {peer} ");
-        println!("| {over_rust:.2} | {ratio} |");
+        let ours = self.best[0];
+        let times = self.best.iter().map(|best| shown(*best, 1));
+        let ratios =
+            self.best[1..].iter().map(|best| shown(ours.zip(*best).map(|(x, y)| x / y), 2));
+        let numbers: Vec<String> = times.chain(ratios).collect();
+        let direction = if self.backward { "backward" } else { "forward" };
+        let m = self.needle.len();
+        println!("| {} | {m} | {direction} | {} |", self.name, numbers.join(" | "));
     }
 }
 
+/// So many digits behind the point, or nothing.
+fn shown(number: Option<f64>, digits: usize) -> String {
+    number.map_or(String::new(), |number| format!("{number:.digits$}"))
+}
+
 /// Makes the best time smaller if this is faster, and hands on what the search says.
-fn timed(best: &mut f64, search: impl Fn() -> bool) -> bool {
+fn timed(best: &mut Option<f64>, search: impl Fn() -> bool) -> bool {
     // Microseconds that this process has had a processor: others may want it too.
     let now = || unsafe { clock() };
     let start = now();
     let found = black_box(search());
-    *best = best.min((now() - start) as f64 / 1e3);
+    let time = (now() - start) as f64 / 1e3;
+    *best = Some(best.map_or(time, |best| best.min(time)));
     found
 }
 

@@ -4,12 +4,13 @@ use crate::case::*;
 use crate::examples;
 use crate::failure::{Failure, Outcome};
 use crate::judge::judge;
+use crate::limits::NEEDLE_BOUND;
 use crate::meaning;
-use crate::model::{Model, NEEDLE_BOUND, RULES};
+use crate::model::{Model, RULES};
 use crate::naive;
 use crate::scripts;
 use crate::states;
-use crate::words::{self, Dice};
+use crate::words::{self, Dice, Letters};
 
 /// Counts the cases tried on one model.
 pub struct Run<'a> {
@@ -18,7 +19,7 @@ pub struct Run<'a> {
 }
 
 /// How far the exhaustive parts go and how many seeded inputs are tried.
-struct Size {
+pub struct Size {
     two_letters: usize,
     three_letters: usize,
     needle: usize,
@@ -28,7 +29,18 @@ struct Size {
     large: usize,
 }
 
-const SHORT_RUN: Size = Size {
+/// For `cargo test`.
+pub const QUICK_RUN: Size = Size {
+    two_letters: 8,
+    three_letters: 5,
+    needle: 4,
+    haystack: 7,
+    state_needle: 2,
+    seeded: 1_000,
+    large: 5,
+};
+
+pub const SHORT_RUN: Size = Size {
     two_letters: 12,
     three_letters: 8,
     needle: 6,
@@ -38,7 +50,7 @@ const SHORT_RUN: Size = Size {
     large: 60,
 };
 
-const LONG_RUN: Size = Size {
+pub const LONG_RUN: Size = Size {
     two_letters: 15,
     three_letters: 10,
     needle: 8,
@@ -49,14 +61,13 @@ const LONG_RUN: Size = Size {
 };
 
 /// The whole comparison. Gives the number of cases.
-pub fn compare(seed: u64, long: bool) -> Result<u64, Failure> {
-    let size = if long { LONG_RUN } else { SHORT_RUN };
+pub fn compare(seed: u64, size: &Size) -> Result<u64, Failure> {
     let mut run = Run { model: &RULES, cases: 0 };
     // These are small already, or too large to be made smaller step by step.
     run.examples()?;
     run.bounds()?;
     run.longest_needles()?;
-    let outcome = run.all(&size, &mut Dice::new(seed));
+    let outcome = run.all(size, &mut Dice::new(seed));
     outcome.map_err(|failure| failure.smallest(|case| verdict(run.model, case)))?;
     Ok(run.cases)
 }
@@ -118,7 +129,7 @@ impl Run<'_> {
         Ok(())
     }
 
-    fn pairs(&mut self, needles: (&[u8], usize), haystacks: (&[u8], usize)) -> Outcome {
+    fn pairs(&mut self, needles: Letters, haystacks: Letters) -> Outcome {
         for (needle, haystack) in words::pairs(needles, haystacks) {
             self.pair(&needle, &haystack)?;
         }

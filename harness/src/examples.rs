@@ -3,8 +3,9 @@
 
 use crate::case::*;
 use crate::judge::judge;
+use crate::limits::{HAYSTACK_BOUND, NEEDLE_BOUND};
 use crate::line;
-use crate::model::{Model, HAYSTACK_BOUND, NEEDLE_BOUND};
+use crate::model::Model;
 use crate::states;
 
 /// A way to build a case, and its answer in the form of `TABLE`.

@@ -1,31 +1,13 @@
-//! Holds the model's reply against the original's.
+//! Holds the model's reply against the original's, if the original is at hand.
 
 use crate::case::*;
 use crate::line;
 use crate::model::{Model, RULES};
+use crate::original;
 
-mod plain {
-    use crate::case::*;
-    use twoway::{find_bytes, probe, rfind_bytes, TwoWaySearcher};
-
-    fn counts() -> Counts {
-        Counts::default()
-    }
-
-    include!("original.rs");
-}
-
-mod counted {
-    use crate::case::*;
-    use twoway_counted::{find_bytes, probe, rfind_bytes, TwoWaySearcher};
-
-    fn counts() -> Counts {
-        let [preparing, comparisons, tests] = tally::take();
-        Counts { preparing, comparisons, tests }
-    }
-
-    include!("original.rs");
-}
+/// Who judges.
+pub const JUDGES: &str =
+    if original::AT_HAND { "the original and the model" } else { "the model alone" };
 
 /// The model's reply, or what it and the Rust say if they differ.
 pub fn judge(model: &Model, case: &Case) -> Result<Reply, String> {
@@ -35,16 +17,40 @@ pub fn judge(model: &Model, case: &Case) -> Result<Reply, String> {
     if RULES.refusal_of(case).is_some() {
         return Ok(reply);
     }
-    let (plain, counted) = (plain::reply(case), counted::reply(case));
-    if counted == reply && plain == reply.clone().without_counts() {
-        return Ok(reply);
+    match original::replies(case) {
+        Some((plain, counted)) => agree(&reply, &plain, &counted)?,
+        // The right model stands in, so that a wrong one is still seen to differ.
+        None => agree_with_rules(&reply, &RULES.reply(case))?,
+    }
+    Ok(reply)
+}
+
+fn agree(reply: &Reply, plain: &Reply, counted: &Reply) -> Result<(), String> {
+    if counted == reply && *plain == reply.clone().without_counts() {
+        return Ok(());
     }
     let mut why =
-        format!("model: {} | Rust: {}", line::show_reply(&reply), line::show_reply(&counted));
-    if plain != counted.without_counts() {
-        why += &format!(" | Rust without counters: {}", line::show_reply(&plain));
+        format!("model: {} | Rust: {}", line::show_reply(reply), line::show_reply(counted));
+    if *plain != counted.clone().without_counts() {
+        why += &format!(" | Rust without counters: {}", line::show_reply(plain));
     }
     Err(why)
+}
+
+fn agree_with_rules(reply: &Reply, right: &Reply) -> Result<(), String> {
+    if reply == right {
+        return Ok(());
+    }
+    Err(format!("model: {} | rules: {}", line::show_reply(reply), line::show_reply(right)))
+}
+
+/// Where a search that is not refused finds the needle, by the unchanged Rust, or by the model
+/// if that is not at hand.
+pub fn found(needle: &[u8], haystack: &[u8], backward: bool) -> Option<usize> {
+    match original::search(backward) {
+        Some(search) => search(haystack, needle),
+        None => RULES.search(needle, haystack, backward).0,
+    }
 }
 
 /// The answer line to a case line, or what model and Rust say if they differ.

@@ -7,11 +7,15 @@ pub mod examples;
 pub mod exhaustive;
 pub mod failure;
 pub mod judge;
+pub mod limits;
 pub mod line;
 pub mod list;
 pub mod meaning;
 pub mod model;
 pub mod naive;
+pub mod original;
+#[cfg(feature = "port")]
+pub mod port;
 pub mod program;
 pub mod scripts;
 pub mod states;

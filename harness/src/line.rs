@@ -1,11 +1,8 @@
 //! Cases and replies as lines of text. The forms stand in docs/LINES.md.
 
 use crate::case::*;
+use crate::limits::{SCRIPT_LETTERS, WORD_BYTES};
 use std::fmt::Write;
-
-/// The most that a line may ask for. A line of more than so many bytes asks for more than these.
-pub const WORD_BYTES: usize = 4096;
-pub const SCRIPT_LETTERS: usize = 256;
 
 /// A line without its newline; one carriage return at its end is let pass. None for a malformed
 /// line, and for one that asks for too much.

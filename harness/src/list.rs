@@ -2,6 +2,7 @@
 
 use crate::case::*;
 use crate::examples;
+use crate::limits::{HAYSTACK_BOUND, SCRIPT_LETTERS, WORD_BYTES};
 use crate::line;
 use crate::model::{fits, RULES};
 use crate::naive;
@@ -172,7 +173,7 @@ pub fn lines() -> Vec<String> {
 }
 
 /// Lines of every kind from a seed of their own, in any order: what is seeded in the list,
-/// words of up to 4,096 bytes, and damaged lines.
+/// words as long as a line takes, and damaged lines.
 pub fn batch(seed: u64) -> Vec<Vec<u8>> {
     let mut list = List::new(seed);
     list.seeded();
@@ -304,11 +305,11 @@ impl List {
         }
     }
 
-    /// The words that are worst for one searcher or another, up to 4,096 bytes.
+    /// The words that are worst for one searcher or another, any length that a line takes.
     fn large(&mut self) {
         let mut odd_end = words::power(b"a", 1500);
         odd_end[1499] = b'b';
-        let run = words::power(b"a", 4096);
+        let run = words::power(b"a", WORD_BYTES);
         self.searches(&odd_end, &run);
         let fibonacci = words::fibonacci(*b"ab", 2584);
         self.walk(&fibonacci[..610], &fibonacci, vec![Call::Next; 4]);
@@ -317,8 +318,8 @@ impl List {
         self.walk(&thue_morse[3..250], &thue_morse, vec![Call::Next, Call::NextBack, Call::Step]);
         self.suffixes(&thue_morse);
         let letters = ALPHABETS[2];
-        let needle = words::random(&mut self.dice, letters, 4096);
-        self.case(Case::Prepare { needle, n: 67_108_864 });
+        let needle = words::random(&mut self.dice, letters, WORD_BYTES);
+        self.case(Case::Prepare { needle, n: HAYSTACK_BOUND });
     }
 
     /// At each limit of a line, and one past it. The last walks are over words at theirs, so that
@@ -326,16 +327,16 @@ impl List {
     /// is let pass.
     fn limits(&mut self) {
         let script = |letters| Call::ALL.into_iter().cycle().take(letters).collect::<Vec<_>>();
-        let (at, past) = (script(line::SCRIPT_LETTERS), script(line::SCRIPT_LETTERS + 1));
+        let (at, past) = (script(SCRIPT_LETTERS), script(SCRIPT_LETTERS + 1));
         let runs = words::power(b"aabx", 900);
         self.walk(b"ab", &runs, at.clone());
         self.walk(b"ab", &runs, past.clone());
-        for bytes in [line::WORD_BYTES, line::WORD_BYTES + 1] {
+        for bytes in [WORD_BYTES, WORD_BYTES + 1] {
             let word = words::thue_morse(*b"ab", bytes);
             self.searches(&word, b"ab");
             self.searches(&word[bytes - 9..], &word);
         }
-        let long = words::fibonacci(*b"ab", line::WORD_BYTES);
+        let long = words::fibonacci(*b"ab", WORD_BYTES);
         self.walk(&long, &long, at);
         let longest = self.lines.last().cloned().unwrap_or_default();
         self.walk(&long, &long, past);
@@ -382,10 +383,10 @@ impl List {
         }
     }
 
-    /// All that can be asked of words of up to 4,096 bytes.
+    /// All that can be asked of words as long as a line takes.
     fn long_words(&mut self) {
-        for needle_max in [12, 300, 4096] {
-            let (needle, haystack) = words::pair(&mut self.dice, needle_max, 4096);
+        for needle_max in [12, 300, WORD_BYTES] {
+            let (needle, haystack) = words::pair(&mut self.dice, needle_max, WORD_BYTES);
             let (m, n) = (needle.len(), haystack.len());
             let any = self.dice.between(0, m + 1);
             self.suffixes(&needle);

@@ -1,6 +1,7 @@
 //! Holds a reply against the meanings in naive.rs and against the bounds of demand 3.
 
 use crate::case::*;
+use crate::limits::PREPARING_PER_BYTE;
 use crate::model::fits;
 use crate::naive;
 
@@ -63,6 +64,11 @@ pub fn within(counts: &Counts, m: usize, left: usize) -> bool {
     counts.comparisons <= (2 * left - m) as u64 && counts.tests <= (left - m + 1) as u64
 }
 
+/// Demand 3 for preparing.
+fn few_rounds(preparing: u64, m: usize) -> Result<(), String> {
+    ensure(preparing <= (PREPARING_PER_BYTE * m) as u64, "too many rounds of preparing")
+}
+
 fn prepared(needle: &[u8], n: usize, state: &State, preparing: u64) -> Result<(), String> {
     let State { m, c, p, .. } = *state;
     let period = naive::smallest_period(needle);
@@ -73,7 +79,7 @@ fn prepared(needle: &[u8], n: usize, state: &State, preparing: u64) -> Result<()
     ensure(fits(state, needle.len(), n), "a prepared state that does not fit")?;
     ensure(state.position == 0 && state.end == n, "cursors not at the ends")?;
     ensure(period_holds, "the wrong kind of period")?;
-    ensure(preparing <= 9 * m as u64, "preparing above 9m")
+    few_rounds(preparing, m)
 }
 
 fn found(
@@ -85,7 +91,7 @@ fn found(
 ) -> Result<(), String> {
     let meant = naive::meant(needle, haystack, backward);
     ensure(position == meant, &format!("the occurrence meant is {meant:?}"))?;
-    ensure(counts.preparing <= 9 * needle.len() as u64, "preparing above 9m")?;
+    few_rounds(counts.preparing, needle.len())?;
     ensure(within(counts, needle.len(), haystack.len()), TOO_MANY)
 }
 

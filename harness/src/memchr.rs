@@ -1,4 +1,5 @@
-//! Stands in for the crate `memchr`, which the original names and which can't be had here.
+//! Stands in for the crate `memchr`, which the original calls for one byte: plain scans, as the
+//! port has them.
 
 #![no_std]
 

@@ -4,11 +4,9 @@
 //! `oracle break` can show that the comparison with the Rust would notice.
 
 use crate::case::*;
+use crate::limits::*;
 use crate::naive;
 use std::cmp::{max, min};
-
-pub const HAYSTACK_BOUND: usize = 67_108_864;
-pub const NEEDLE_BOUND: usize = 65_536;
 
 #[derive(Clone, Copy, Debug, PartialEq, Eq)]
 pub enum Fault {
@@ -107,7 +105,10 @@ impl Model {
                 let (state, preparing) = self.prepare(needle, *n);
                 Reply::Prepared { state, preparing }
             }
-            Case::Search { needle, haystack, backward } => self.search(needle, haystack, *backward),
+            Case::Search { needle, haystack, backward } => {
+                let (position, counts) = self.search(needle, haystack, *backward);
+                Reply::Found { position, counts }
+            }
             Case::Call { call, needle, haystack, state } => {
                 Reply::Called(self.call(*call, needle, haystack, *state))
             }
@@ -140,10 +141,10 @@ impl Model {
     /// "Checks run in the order 1, 2, 3, 4, and the first that applies is the answer"
     fn refusal(&self, asked: &Asked) -> Option<u8> {
         let mut checks = [
-            (1, asked.n > HAYSTACK_BOUND),
-            (2, asked.m > NEEDLE_BOUND),
-            (3, asked.walking && asked.m == 0),
-            (4, asked.state.is_some_and(|state| !fits(state, asked.m, asked.n))),
+            (HAYSTACK_TOO_LONG, asked.n > HAYSTACK_BOUND),
+            (NEEDLE_TOO_LONG, asked.m > NEEDLE_BOUND),
+            (NEEDLE_EMPTY, asked.walking && asked.m == 0),
+            (STATE_DOES_NOT_FIT, asked.state.is_some_and(|state| !fits(state, asked.m, asked.n))),
         ];
         if self.fault == Fault::RefusalsInOtherOrder {
             checks.reverse();
@@ -432,12 +433,16 @@ impl Model {
     }
 
     /// "Empty needle: find 0, rfind n. One byte: a scan from the front or back. Otherwise
-    /// prepare, then one next match."
-    fn search(&self, needle: &[u8], haystack: &[u8], backward: bool) -> Reply {
+    /// prepare, then one next match." For lengths that are not refused.
+    pub fn search(
+        &self,
+        needle: &[u8],
+        haystack: &[u8],
+        backward: bool,
+    ) -> (Option<usize>, Counts) {
         let n = haystack.len();
         if needle.is_empty() {
-            let position = Some(if backward { n } else { 0 });
-            return Reply::Found { position, counts: Counts::default() };
+            return (Some(if backward { n } else { 0 }), Counts::default());
         }
         if needle.len() == 1 {
             return self.scan(needle[0], haystack, backward);
@@ -449,11 +454,11 @@ impl Model {
             Answer::Match(start, _) => Some(start),
             _ => None,
         };
-        Reply::Found { position, counts: Counts { preparing, ..called.counts } }
+        (position, Counts { preparing, ..called.counts })
     }
 
     /// "the scan compares up to and including the hit, or all n bytes if there is none"
-    fn scan(&self, byte: u8, haystack: &[u8], backward: bool) -> Reply {
+    fn scan(&self, byte: u8, haystack: &[u8], backward: bool) -> (Option<usize>, Counts) {
         let n = haystack.len();
         let mut counts = Counts::default();
         for i in 0..n {
@@ -463,10 +468,10 @@ impl Model {
                 counts.comparisons += 1;
             }
             if hit {
-                return Reply::Found { position: Some(place), counts };
+                return (Some(place), counts);
             }
         }
-        Reply::Found { position: None, counts }
+        (None, counts)
     }
 
     /// Preparing, then the calls of the script, each with the state of the one before.

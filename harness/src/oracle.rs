@@ -4,6 +4,8 @@
 //!     oracle list                       prints the case lines of the stored list
 //!     oracle compare [--seed S] [--long]    model, Rust and meaning against each other
 //!     oracle break                      shows that wrong models are caught
+//!     oracle judges                     prints who judges: with the original, or the model alone
+//!     oracle missing                    prints the folders that were not there at the build
 //!
 //! The forms of the lines and of the answers stand in docs/LINES.md.
 //!
@@ -13,19 +15,22 @@
 //! with status 1.
 
 use harness::{broken, compare, judge, list, program};
+use std::fmt::Display;
 use std::io::{self, BufRead, Write};
 use std::process::ExitCode;
 
-const USAGE: &str = "oracle answer | list | compare [--seed S] [--long] | break";
+const USAGE: &str = "oracle answer | list | compare [--seed S] [--long] | break | judges | missing";
 
 fn main() -> ExitCode {
     let words: Vec<String> = std::env::args().skip(1).collect();
     let words: Vec<&str> = words.iter().map(String::as_str).collect();
     let outcome = match words[..] {
         ["answer"] => answer(),
-        ["list"] => list(),
+        ["list"] => print(list::lines()),
         ["compare", ref options @ ..] => Ok(compare(options)),
         ["break"] => Ok(program::status(broken::all_caught())),
+        ["judges"] => print([judge::JUDGES]),
+        ["missing"] => print(program::missing()),
         _ => Ok(program::usage(USAGE)),
     };
     outcome.unwrap_or_else(|error| {
@@ -53,9 +58,9 @@ fn answer() -> io::Result<ExitCode> {
     Ok(ExitCode::SUCCESS)
 }
 
-fn list() -> io::Result<ExitCode> {
+fn print<T: Display>(lines: impl IntoIterator<Item = T>) -> io::Result<ExitCode> {
     let mut output = io::BufWriter::new(io::stdout().lock());
-    for line in list::lines() {
+    for line in lines {
         writeln!(output, "{line}")?;
     }
     output.flush()?;
@@ -66,7 +71,8 @@ fn compare(options: &[&str]) -> ExitCode {
     let Some((seed, long)) = program::options(options) else {
         return program::usage(USAGE);
     };
-    let outcome = compare::compare(seed, long);
+    let size = if long { compare::LONG_RUN } else { compare::SHORT_RUN };
+    let outcome = compare::compare(seed, &size);
     let shown = outcome.map(|cases| format!("{cases} cases")).map_err(|failure| failure.shown());
     program::report("compare", seed, shown)
 }

@@ -1,5 +1,9 @@
 //! The C functions of `include/twoway.h`, safe to call from Rust.
 
+use crate::limits::*;
+
+// The library is found where each program is linked, so that `differ-break` can link another.
+#[link(name = "twoway", kind = "static", modifiers = "-bundle")]
 extern "C" {
     fn twoway_find(text: *const u8, n: usize, pattern: *const u8, m: usize) -> u64;
     fn twoway_rfind(text: *const u8, n: usize, pattern: *const u8, m: usize) -> u64;
@@ -32,13 +36,10 @@ pub fn search(backward: bool, text: &[u8], pattern: &[u8], empty: *const u8) -> 
 }
 
 fn found(answer: u64) -> Found {
-    const NOTHING: u64 = u64::MAX;
-    const TEXT_TOO_LONG: u64 = NOTHING - 1;
-    const PATTERN_TOO_LONG: u64 = NOTHING - 2;
     match answer {
-        NOTHING => Found::Nothing,
-        TEXT_TOO_LONG => Found::Refused(1),
-        PATTERN_TOO_LONG => Found::Refused(2),
+        NONE_CODE => Found::Nothing,
+        HAYSTACK_CODE => Found::Refused(HAYSTACK_TOO_LONG),
+        NEEDLE_CODE => Found::Refused(NEEDLE_TOO_LONG),
         position => Found::At(position as usize),
     }
 }

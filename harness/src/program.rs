@@ -1,9 +1,14 @@
 //! The options of the programs, and how they end.
 
+use crate::judge;
 use std::process::ExitCode;
 
+/// Where the original and the crate memchr were looked for, if they were not there.
+pub const NO_ORIGINAL: Option<&str> = option_env!("NO_TWOWAY_SRC");
+pub const NO_MEMCHR: Option<&str> = option_env!("NO_MEMCHR_SRC");
+
 /// The paper's year.
-const SEED: u64 = 1991;
+pub const SEED: u64 = 1991;
 
 /// `[--seed S] [--long]`: the seed and whether the run is long. None for anything else.
 pub fn options(words: &[&str]) -> Option<(u64, bool)> {
@@ -28,10 +33,16 @@ pub fn status(good: bool) -> ExitCode {
     }
 }
 
+/// The folders that were looked for when this was built and were not there: the original's, and
+/// that of the crate memchr.
+pub fn missing() -> impl Iterator<Item = &'static str> {
+    [NO_ORIGINAL, NO_MEMCHR].into_iter().flatten()
+}
+
 /// Prints a run's one line: how many agreed, or the difference.
 pub fn report(name: &str, seed: u64, outcome: Result<String, String>) -> ExitCode {
     match &outcome {
-        Ok(agreed) => println!("{name}: {agreed} agree (seed {seed})"),
+        Ok(agreed) => println!("{name}: {agreed} agree (seed {seed}; judged by {})", judge::JUDGES),
         Err(difference) => println!("{name}: DIFFERENCE {difference}"),
     }
     status(outcome.is_ok())

@@ -1,13 +1,15 @@
-//! The C functions against the unchanged Rust, against the meaning, and against the answers
+//! The C functions against the unchanged Rust, or the model, against the meaning, and against the answers
 //! that stand in the documents.
 
 use harness::case::{Case, Word};
 use harness::examples;
 use harness::failure::{Failure, Outcome};
-use harness::model::{NEEDLE_BOUND, RULES};
+use harness::judge;
+use harness::limits::NEEDLE_BOUND;
+use harness::model::RULES;
 use harness::naive;
-use harness::words::{self, Dice, ALPHABETS};
-use port::Found;
+use harness::port::{self, Found};
+use harness::words::{self, Dice, Letters, ALPHABETS};
 
 /// How far the exhaustive parts go (the longest needle and haystack), and how many seeded
 /// inputs are tried.
@@ -53,18 +55,18 @@ pub fn differ(seed: u64, long: bool) -> Result<String, String> {
     outcome.map(|()| format!("{} cases", run.cases)).map_err(|failure| failure.shown())
 }
 
-/// What the rules ask for: a refusal, or what the unchanged Rust answers, which must be what
-/// is meant.
+/// What the rules ask for: a refusal, or what the unchanged Rust answers (the model, if that is
+/// not at hand), which must be what is meant.
 fn wanted(needle: &[u8], haystack: &[u8], backward: bool) -> Result<Found, String> {
     if let Some(number) = RULES.refusal_of_search(needle.len(), haystack.len()) {
         return Ok(Found::Refused(number));
     }
-    let search = if backward { twoway::rfind_bytes } else { twoway::find_bytes };
-    let (rust, meant) = (search(haystack, needle), naive::meant(needle, haystack, backward));
-    if rust == meant {
-        Ok(rust.map_or(Found::Nothing, Found::At))
+    let found = judge::found(needle, haystack, backward);
+    let meant = naive::meant(needle, haystack, backward);
+    if found == meant {
+        Ok(found.map_or(Found::Nothing, Found::At))
     } else {
-        Err(format!("Rust: {rust:?} | meant: {meant:?}"))
+        Err(format!("{}: {found:?} | meant: {meant:?}", judge::JUDGES))
     }
 }
 
@@ -120,7 +122,7 @@ impl Run {
         self.one(needle, haystack, true, std::ptr::dangling())
     }
 
-    fn pairs(&mut self, needles: (&[u8], usize), haystacks: (&[u8], usize)) -> Outcome {
+    fn pairs(&mut self, needles: Letters, haystacks: Letters) -> Outcome {
         words::pairs(needles, haystacks)
             .try_for_each(|(needle, haystack)| self.both(&needle, &haystack))
     }

@@ -1,19 +1,20 @@
 //! The counters that `counted.sed` puts into a copy of the original.
 //!
 //! The unchanged Rust counts nothing, so the model's counts would have nothing to be held
-//! against. The counters use plain loads and stores: only one thread ever runs.
+//! against. Each thread has counters of its own, since tests run beside each other.
 
-#![no_std]
+use std::cell::Cell;
+use std::thread::LocalKey;
 
-use core::sync::atomic::{AtomicU64, Ordering::Relaxed};
-
-static PREPARING: AtomicU64 = AtomicU64::new(0);
-static COMPARISONS: AtomicU64 = AtomicU64::new(0);
-static TESTS: AtomicU64 = AtomicU64::new(0);
+thread_local! {
+    static PREPARING: Cell<u64> = const { Cell::new(0) };
+    static COMPARISONS: Cell<u64> = const { Cell::new(0) };
+    static TESTS: Cell<u64> = const { Cell::new(0) };
+}
 
 #[inline]
-fn add_one(counter: &AtomicU64) {
-    counter.store(counter.load(Relaxed) + 1, Relaxed);
+fn add_one(counter: &'static LocalKey<Cell<u64>>) {
+    counter.set(counter.get() + 1);
 }
 
 /// A round of a maximal suffix pass.
@@ -56,7 +57,7 @@ pub fn memrchr(x: u8, text: &[u8]) -> Option<usize> {
     })
 }
 
-/// Preparing, comparisons and tests since the last call, which start again at 0.
+/// Preparing, comparisons and tests since the thread's last call, which start again at 0.
 pub fn take() -> [u64; 3] {
-    [&PREPARING, &COMPARISONS, &TESTS].map(|counter| counter.swap(0, Relaxed))
+    [&PREPARING, &COMPARISONS, &TESTS].map(|counter| counter.take())
 }

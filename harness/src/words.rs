@@ -42,9 +42,13 @@ const EVERY_BYTE: [u8; 256] = {
 pub const ALPHABETS: [&[u8]; 5] =
     [b"ab", b"abc", &EVERY_BYTE, &[0x01, 0x41], &[0x01, 0x41, 0x02, 0xc1]];
 
+/// Letters, and the longest word over them.
+pub type Letters<'a> = (&'a [u8], usize);
+
 /// Needles and haystacks over letters that the fingerprint can't tell apart, each with its
 /// longest length.
-pub const ALIKE: ((&[u8], usize), (&[u8], usize)) = ((&[0x01, 0x02], 4), (&[0x01, 0x02, 0x41], 7));
+pub const ALIKE: (Letters<'static>, Letters<'static>) =
+    ((&[0x01, 0x02], 4), (&[0x01, 0x02, 0x41], 7));
 
 /// All words of one length, in order.
 pub fn all(letters: &[u8], len: usize) -> impl Iterator<Item = Word> + '_ {
@@ -62,8 +66,8 @@ pub fn up_to(letters: &[u8], longest: usize) -> impl Iterator<Item = Word> + '_ 
 /// All needles over some letters in all haystacks over some, each up to a length, the shortest
 /// pairs first, so that the first difference is a smallest one.
 pub fn pairs<'a>(
-    needles: (&'a [u8], usize),
-    haystacks: (&'a [u8], usize),
+    needles: Letters<'a>,
+    haystacks: Letters<'a>,
 ) -> impl Iterator<Item = (Word, Word)> + 'a {
     let lengths = (0..=needles.1 + haystacks.1).flat_map(move |total| {
         let shortest = total.saturating_sub(haystacks.1);
