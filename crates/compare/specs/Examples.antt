@@ -12,7 +12,7 @@ table =
     record { computed = agree banana nana ∷ agree aab aaa ∷ []; stated = 0 ∷ 2 ∷ [] }
     -- where one word is a part of the other, the shorter one decides, on either side
     ∷ record { computed = agree aa aab ∷ agree aab aa ∷ []; stated = 2 ∷ 2 ∷ [] }
-    -- what stands behind a difference is not counted: "aab" and "bab"
+    -- what stands behind a difference is not counted: "aab" and `bab`
     ∷ record { computed = agree aab (98 ∷ 97 ∷ 98 ∷ []) ∷ []; stated = 0 ∷ [] }
     -- the empty string agrees with every other in no letter
     ∷ record { computed = agree [] aab ∷ agree [] [] ∷ []; stated = 0 ∷ 0 ∷ [] }

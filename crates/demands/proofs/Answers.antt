@@ -2,6 +2,7 @@
 -- Assumes nothing.
 use Prim.Native.Nat.{ℕ, _+_, _<_}
 use mathlib.Core.Path.{_≡_, refl}
+use mathlib.Core.Option.{Option, none, some}
 use native.Mathlib.Omega.{arith}
 use Rattle.words.specs.Word.{Word, mirror}
 use Rattle.words.specs.Choice.{FindsLeast}
@@ -14,9 +15,8 @@ use Rattle.windows.specs.Meaning.{place}
 use Rattle.windows.proofs.Windows.{Skips}
 use Rattle.windows.proofs.Mirror.{MirroredStop}
 use Rattle.search.specs.Calls.{endingOf}
-use Rattle.searcher.specs.declared.Step.{Step}
-use Rattle.searcher.specs.declared.NextMatch.{NextMatch}
-use Rattle.searcher.specs.Walk.{stepAnswer, matchAnswer}
+use Rattle.limits.specs.Said.{Said, refused, given}
+use Rattle.searcher.specs.Walk.{reject, stepAnswer, matchAnswer}
 use Rattle.demands.specs.Means.{AnswersLeast, AnswersGreatest, StepMeans, StepBackMeans}
 use Rattle.demands.proofs.OneWay.{Settled}
 
@@ -29,8 +29,8 @@ module _ (x h : Word) where
 
   pub answers-least : (a : ℕ) (t : Stop) → FindsLeast (OccursFrom x h a) (place t) → AnswersLeast (OccursFrom x h a) m (matchAnswer (endingOf m t))
   answers-least a (Stop.Hit k) l = (l, refl)
-  answers-least a Stop.Passed none = none
-  answers-least a Stop.Out none = none
+  answers-least a Stop.Passed l = l
+  answers-least a Stop.Out l = l
 
   -- b and a face each other: what starts below b here starts at a or after it in the mirror
   pub answers-greatest : (b a : ℕ) {t t′ : Stop} → Facing x h b a → MirroredStop m n t t′ → FindsLeast (OccursFrom (mirror x) (mirror h) a) (place t′)
@@ -38,8 +38,8 @@ module _ (x h : Word) where
   answers-greatest b a facing (MirroredStop.hit {k} {k′} q) l =
       let there : k ≡ mirrored x h k′ = omega arith in
       (rw there (least-greatest x h b a facing k′ l), refl)
-  answers-greatest b a facing MirroredStop.passed none = none-none x h b a facing none
-  answers-greatest b a facing MirroredStop.out none = none-none x h b a facing none
+  answers-greatest b a facing MirroredStop.passed l = none-none x h b a facing l
+  answers-greatest b a facing MirroredStop.out l = none-none x h b a facing l
 
   -- a step's match moves by the needle's size
   module _ (v : Plan) (whole : v .shift ≡ x .size) where
@@ -50,7 +50,7 @@ module _ (x h : Word) where
 
     -- what is settled in the mirror, from e′ up to a′, is settled here, from a up to e
     module _ (e a e′ a′ : ℕ) (before : e + e′ ≡ n) (after : a + a′ ≡ n) where
-      rejects-back : (e′ < a′) × Skips (mirror x) (mirror h) e′ a′ → StepBackMeans x h e a (Step.Reject a e)
+      rejects-back : (e′ < a′) × Skips (mirror x) (mirror h) e′ a′ → StepBackMeans x h e a (given (reject a e))
       rejects-back s =
           let less = s .0 in
           (refl, refl, omega arith, λ j lo hi o. s .1 (mirrored x h j) (omega arith) (let fits = o .fits in omega arith) (occurs-mirror x h j o))
@@ -66,12 +66,12 @@ module _ (x h : Word) where
 
 -- where P and Q hold of the same places, an answer says the same of both
 module _ (P Q : ℕ → Type 0) (to : (j : ℕ) → P j → Q j) (from : (j : ℕ) → Q j → P j) (m : ℕ) where
-  pub least-answer-same : (a : NextMatch) → AnswersLeast P m a → AnswersLeast Q m a
-  least-answer-same (NextMatch.Match k e) l = (least-same to from (l .0), l .1)
-  least-answer-same NextMatch.Nothing none = λ j q. none j (from j q)
-  least-answer-same (NextMatch.Refused why) l = l
+  pub least-answer-same : (a : Said (Option (ℕ × ℕ))) → AnswersLeast P m a → AnswersLeast Q m a
+  least-answer-same (given (some (k, e))) l = (least-same to from (l .0), l .1)
+  least-answer-same (given none) l = λ j q. l j (from j q)
+  least-answer-same (refused number) l = l
 
-  pub greatest-answer-same : (a : NextMatch) → AnswersGreatest P m a → AnswersGreatest Q m a
-  greatest-answer-same (NextMatch.Match k e) g = (greatest-same to from (g .0), g .1)
-  greatest-answer-same NextMatch.Nothing none = λ j q. none j (from j q)
-  greatest-answer-same (NextMatch.Refused why) g = g
+  pub greatest-answer-same : (a : Said (Option (ℕ × ℕ))) → AnswersGreatest P m a → AnswersGreatest Q m a
+  greatest-answer-same (given (some (k, e))) g = (greatest-same to from (g .0), g .1)
+  greatest-answer-same (given none) l = λ j q. l j (from j q)
+  greatest-answer-same (refused number) g = g

@@ -13,7 +13,7 @@ use lib.ListN.{length}
 use borrow.Author.Tests.{eqb-true, eqb-false, ne-eqb}
 use Rattle.words.specs.Word.{front, mirror}
 use Rattle.limits.specs.declared.Check.{Check}
-use Rattle.limits.specs.declared.Refusal.{Refusal}
+use Rattle.limits.specs.Said.{refused, given}
 use Rattle.limits.proofs.Room.{haystack-room, needle-room}
 use Rattle.limits.proofs.Checks.{within-passes}
 use Rattle.byteset.specs.Fingerprint.{has}
@@ -33,9 +33,7 @@ use Rattle.search.specs.declared.Ending.{Ending}
 use Rattle.search.specs.declared.Walked.{Walked}
 use Rattle.search.specs.Calls.{refusal, unmoved, endingOf, forward, backward, walkedForward, walkedBackward, forwardCall, backwardCall}
 use Rattle.searcher.specs.declared.TwoWaySearcher.{TwoWaySearcher}
-use Rattle.searcher.specs.declared.Step.{Step}
-use Rattle.searcher.specs.declared.NextMatch.{NextMatch}
-use Rattle.searcher.specs.Walk.{stepAnswer, matchAnswer}
+use Rattle.searcher.specs.Walk.{done, stepAnswer, matchAnswer}
 use Rattle.demands.specs.Allowed.{Allowed}
 use Rattle.demands.specs.Reached.{stepMatches, nextMatches}
 use Rattle.demands.specs.Stays.{Stays}
@@ -59,25 +57,25 @@ module _ (m : ℕ) where
   match-hits Stop.Passed = refl
   match-hits Stop.Out = refl
 
-  step-answers : (low high : ℕ) (t : Stop) (why : Refusal) → stepAnswer (endingOf m t) low high ≡ Step.Refused why → ⊥
-  step-answers low high (Stop.Hit k) why e = apart cc
-  step-answers low high Stop.Passed why e = apart cc
-  step-answers low high Stop.Out why e = apart cc
+  step-answers : (low high : ℕ) (t : Stop) (number : ℕ) → stepAnswer (endingOf m t) low high ≡ refused number → ⊥
+  step-answers low high (Stop.Hit k) number e = apart cc
+  step-answers low high Stop.Passed number e = apart cc
+  step-answers low high Stop.Out number e = apart cc
 
-  match-answers : (t : Stop) (why : Refusal) → matchAnswer (endingOf m t) ≡ NextMatch.Refused why → ⊥
-  match-answers (Stop.Hit k) why e = apart cc
-  match-answers Stop.Passed why e = apart cc
-  match-answers Stop.Out why e = apart cc
+  match-answers : (t : Stop) (number : ℕ) → matchAnswer (endingOf m t) ≡ refused number → ⊥
+  match-answers (Stop.Hit k) number e = apart cc
+  match-answers Stop.Passed number e = apart cc
+  match-answers Stop.Out number e = apart cc
 
-done-answers : (why : Refusal) → Step.Done ≡ Step.Refused why → ⊥
-done-answers why e = apart cc
+done-answers : (number : ℕ) → given done ≡ refused number → ⊥
+done-answers number e = apart cc
 
 -- a step's test whether it is Done, which a next match does not make
-by-done : {A : Type 0} (P : A → Type 0) {done more : A} (stepping : Bool) (a b : ℕ) → (stepping ≡ true → a ≡ b → P done) → ((stepping ≡ true → a ≡ b → ⊥) → P more)
-    → P (cond (stepping && eqb a b) done more)
-by-done P {done} {more} true a b p q = go (eqb a b) refl
+by-done : {A : Type 0} (P : A → Type 0) {still more : A} (stepping : Bool) (a b : ℕ) → (stepping ≡ true → a ≡ b → P still) → ((stepping ≡ true → a ≡ b → ⊥) → P more)
+    → P (cond (stepping && eqb a b) still more)
+by-done P {still} {more} true a b p q = go (eqb a b) refl
   where
-    go : (t : Bool) → eqb a b ≡ t → P (cond t done more)
+    go : (t : Bool) → eqb a b ≡ t → P (cond t still more)
     go true e = p refl (eqb-true a b e)
     go false e = q (λ s. eqb-false a b e)
 by-done P false a b p q = q (λ s. let z : _≡_ {A = ℕ} 0 1 = cc in absurd (apart z))
@@ -144,13 +142,13 @@ module _ (needle haystack : List ℕ) (ok : Allowed needle haystack) (f : Fixed)
         → ((stepping ≡ true → s .position ≡ n → ⊥) → P (walkedForward m s (forward stepping needle haystack f s)))
         → P (forwardCall stepping needle haystack f s)
     unfolding forwardCall
-    forward-cases done more = rw checked (by-done P stepping (s .position) n done more)
+    forward-cases still more = rw checked (by-done P stepping (s .position) n still more)
 
     pub backward-cases : (stepping ≡ true → s .end ≡ 0 → P (unmoved Ending.Done s))
         → ((stepping ≡ true → s .end ≡ 0 → ⊥) → P (walkedBackward m s (backward stepping needle haystack f s)))
         → P (backwardCall stepping needle haystack f s)
     unfolding backwardCall
-    backward-cases done more = rw checked (by-done P stepping (s .end) 0 done more)
+    backward-cases still more = rw checked (by-done P stepping (s .end) 0 still more)
 
   not-stepping : {A : Type 0} → _≡_ {A = Bool} false true → A
   not-stepping e = let z : _≡_ {A = ℕ} 0 1 = cc in absurd (apart z)
@@ -169,10 +167,10 @@ fits-stays needle haystack ok s fit =
     let k = s .moving in
     let m = length needle in
     record {
-      next = forward-cases needle haystack ok f k fit (λ r. (fits needle haystack f (r .moving) ≡ true) × ((why : Refusal) → stepAnswer (r .ending) (k .position) (r .moving .position) ≡ Step.Refused why → ⊥)) true
+      next = forward-cases needle haystack ok f k fit (λ r. (fits needle haystack f (r .moving) ≡ true) × ((number : ℕ) → stepAnswer (r .ending) (k .position) (r .moving .position) ≡ refused number → ⊥)) true
           (λ _ e. (fit, done-answers))
           (λ e. (forward-goes needle haystack ok f k fit true .fit, step-answers m _ _ (forward true needle haystack f k .stop)));
-      next-back = backward-cases needle haystack ok f k fit (λ r. (fits needle haystack f (r .moving) ≡ true) × ((why : Refusal) → stepAnswer (r .ending) (r .moving .end) (k .end) ≡ Step.Refused why → ⊥)) true
+      next-back = backward-cases needle haystack ok f k fit (λ r. (fits needle haystack f (r .moving) ≡ true) × ((number : ℕ) → stepAnswer (r .ending) (r .moving .end) (k .end) ≡ refused number → ⊥)) true
           (λ _ e. (fit, done-answers))
           (λ e. (backward-goes needle haystack ok f k fit true .fit, step-answers m _ _ (backward true needle haystack f k .stop)));
       next-match = rw (next-match-walked needle haystack ok f k fit) (forward-goes needle haystack ok f k fit false .fit, match-answers m (forward false needle haystack f k .stop));

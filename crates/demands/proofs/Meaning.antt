@@ -21,8 +21,8 @@ use Rattle.record.specs.Kinds.{forwardPlan, backwardPlan, forwardCursor, backwa
 use Rattle.record.proofs.Fitting.{fits-backward}
 use Rattle.search.specs.Calls.{forward}
 use Rattle.searcher.specs.declared.TwoWaySearcher.{TwoWaySearcher}
-use Rattle.searcher.specs.declared.Step.{Step}
-use Rattle.searcher.specs.Walk.{newRule, stepAnswer, nextRule, nextBackRule, nextMatchRule, nextMatchBackRule}
+use Rattle.limits.specs.Said.{given}
+use Rattle.searcher.specs.Walk.{done, newRule, stepAnswer, nextRule, nextBackRule, nextMatchRule, nextMatchBackRule}
 use Rattle.demands.specs.Allowed.{Allowed}
 use Rattle.demands.specs.Reached.{Call, History, after, reached}
 use Rattle.demands.specs.Means.{AnswersLeast, AnswersGreatest, StepMeans, StepBackMeans, ForwardList, ForwardNone, NextMatchMeans, NextMeans, BackwardList, BackwardNone, NextMatchBackMeans, NextBackMeans, FirstMatchLeast, LastMatchGreatest, gapOf, startsBelow, Demand2}
@@ -97,7 +97,7 @@ module _ (needle haystack : List ℕ) (ok : Allowed needle haystack) (calls : Li
       (λ e. step-settles x h (forwardPlan (x .size) f (s .memory)) refl (s .position) (r .cursor .at) (r .stop) (holds-step forward-holds (e refl)))
 
   -- at the haystack's end there is no room for the needle, which has a letter
-  forward-done : nextRule needle haystack (H .walk) .answer ≡ Step.Done → None (OccursFrom x h (s .position))
+  forward-done : nextRule needle haystack (H .walk) .answer ≡ given done → None (OccursFrom x h (s .position))
   forward-done e j o =
       let end = subst (StepMeans x h (s .position) _) e step-means .0 in
       let some = ok .nonempty in
@@ -141,7 +141,7 @@ module _ (needle haystack : List ℕ) (ok : Allowed needle haystack) (calls : Li
       (λ _ e. (e, refl))
       (λ e. step-settles-back x h _ refl (s .end) _ (cursor′ .at) _ (omega arith) (t .cursors .place) (t .stops) (holds-step backward-holds (let more = e refl in omega arith)))
 
-  backward-done : nextBackRule needle haystack (H .walk) .answer ≡ Step.Done → None (OccursBelow x h (startsBelow x (s .end)))
+  backward-done : nextBackRule needle haystack (H .walk) .answer ≡ given done → None (OccursBelow x h (startsBelow x (s .end)))
   backward-done e j o =
       let end = subst (StepBackMeans x h (s .end) _) e step-back-means .0 in
       let some = ok .nonempty in

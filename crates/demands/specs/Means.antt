@@ -4,45 +4,45 @@ use Prim.Native.Nat.{ℕ, _+_, _-_, _<_, _≤_}
 use mathlib.Core.Path.{_≡_}
 use mathlib.Core.Logic.{_⊎_}
 use mathlib.Core.List.{List, _++_}
+use mathlib.Core.Option.{Option, none, some}
 use lib.ListN.{length}
 use Rattle.words.specs.Word.{Word, front}
 use Rattle.words.specs.Choice.{Least, Greatest, None}
 use Rattle.words.specs.Occurs.{Occurs, OccursFrom, OccursBelow, Leftmost, Rightmost}
-use Rattle.searcher.specs.Walk.{newRule, nextRule, nextBackRule, nextMatchRule, nextMatchBackRule}
-use Rattle.searcher.specs.declared.Step.{Step}
-use Rattle.searcher.specs.declared.NextMatch.{NextMatch}
+use Rattle.limits.specs.Said.{Said, refused, given}
+use Rattle.searcher.specs.Walk.{StepTerm, match, reject, done, newRule, nextRule, nextBackRule, nextMatchRule, nextMatchBackRule}
 use Rattle.demands.specs.Reached.{Call, History, reached}
 
 -- ---- an answer, for a needle x and a haystack h
 
 -- a next match, for a needle of m bytes: the least of the places that have P, and nothing exactly if there is none
-abbrev pub AnswersLeast : (ℕ → Type 0) → ℕ → NextMatch → Type 0
-AnswersLeast P m (NextMatch.Match k e) = Least P k × (e ≡ k + m)
-AnswersLeast P m NextMatch.Nothing = None P
-AnswersLeast P m (NextMatch.Refused why) = ⊥
+abbrev pub AnswersLeast : (ℕ → Type 0) → ℕ → Said (Option (ℕ × ℕ)) → Type 0
+AnswersLeast P m (given (some (k, e))) = Least P k × (e ≡ k + m)
+AnswersLeast P m (given none) = None P
+AnswersLeast P m (refused number) = ⊥
 
 -- the same of the greatest
-abbrev pub AnswersGreatest : (ℕ → Type 0) → ℕ → NextMatch → Type 0
-AnswersGreatest P m (NextMatch.Match k e) = Greatest P k × (e ≡ k + m)
-AnswersGreatest P m NextMatch.Nothing = None P
-AnswersGreatest P m (NextMatch.Refused why) = ⊥
+abbrev pub AnswersGreatest : (ℕ → Type 0) → ℕ → Said (Option (ℕ × ℕ)) → Type 0
+AnswersGreatest P m (given (some (k, e))) = Greatest P k × (e ≡ k + m)
+AnswersGreatest P m (given none) = None P
+AnswersGreatest P m (refused number) = ⊥
 
 -- A step forward, with `position` before and after it. It settles the part between the two, so the parts of steps in a row cover the haystack
--- ("A step's Rejects cover what lies between"): a Match is the whole part, in a Reject no occurrence starts, and at Done nothing is left.
-abbrev pub StepMeans : Word → Word → ℕ → ℕ → Step → Type 0
-StepMeans x h before after (Step.Match a e) = (a ≡ before) × (e ≡ after) × (e ≡ a + x .size) × Occurs x h a
-StepMeans x h before after (Step.Reject a e) =
+-- (the Rejects of steps cover what lies between their matches): a Match is the whole part, in a Reject no occurrence starts, and at Done nothing is left.
+abbrev pub StepMeans : Word → Word → ℕ → ℕ → Said StepTerm → Type 0
+StepMeans x h before after (given (match a e)) = (a ≡ before) × (e ≡ after) × (e ≡ a + x .size) × Occurs x h a
+StepMeans x h before after (given (reject a e)) =
     (a ≡ before) × (e ≡ after) × (a < e) × ((j : ℕ) → a ≤ j → j < e → Occurs x h j → ⊥)
-StepMeans x h before after Step.Done = (before ≡ h .size) × (after ≡ before)
-StepMeans x h before after (Step.Refused why) = ⊥
+StepMeans x h before after (given done) = (before ≡ h .size) × (after ≡ before)
+StepMeans x h before after (refused number) = ⊥
 
 -- A step backward, with `end` before and after it: in a Reject no occurrence ends.
-abbrev pub StepBackMeans : Word → Word → ℕ → ℕ → Step → Type 0
-StepBackMeans x h before after (Step.Match a e) = (e ≡ before) × (a ≡ after) × (e ≡ a + x .size) × Occurs x h a
-StepBackMeans x h before after (Step.Reject a e) =
+abbrev pub StepBackMeans : Word → Word → ℕ → ℕ → Said StepTerm → Type 0
+StepBackMeans x h before after (given (match a e)) = (e ≡ before) × (a ≡ after) × (e ≡ a + x .size) × Occurs x h a
+StepBackMeans x h before after (given (reject a e)) =
     (e ≡ before) × (a ≡ after) × (a < e) × ((j : ℕ) → a < j + x .size → j + x .size ≤ e → Occurs x h j → ⊥)
-StepBackMeans x h before after Step.Done = (before ≡ 0) × (after ≡ before)
-StepBackMeans x h before after (Step.Refused why) = ⊥
+StepBackMeans x h before after (given done) = (before ≡ 0) × (after ≡ before)
+StepBackMeans x h before after (refused number) = ⊥
 
 -- ---- a history of calls
 
@@ -61,7 +61,7 @@ module _ (needle haystack : List ℕ) (H : History) where
   abbrev h : Word
   h = front haystack
 
-  -- a next match gives the least occurrence from `position` on, "nothing exactly if there is none"
+  -- a next match gives the least occurrence from `position` on, and nothing exactly if there is none
   abbrev pub NextMatchMeans : Type 0
   NextMatchMeans = AnswersLeast (OccursFrom x h (H .walk .moving .position)) (x .size) (nextMatchRule needle haystack (H .walk) .answer)
 
@@ -87,7 +87,7 @@ module _ (needle haystack : List ℕ) (H : History) where
     -- once a next match has nothing to give, or a step is Done, they are the whole list
     abbrev pub ForwardNone : Type 0
     ForwardNone =
-        (nextMatchRule needle haystack (H .walk) .answer ≡ NextMatch.Nothing) ⊎ (nextRule needle haystack (H .walk) .answer ≡ Step.Done)
+        (nextMatchRule needle haystack (H .walk) .answer ≡ given none) ⊎ (nextRule needle haystack (H .walk) .answer ≡ given done)
         → Leftmost x h gap 0 (H .forward .matches)
 
     -- the same backward: the greedy rightmost ones
@@ -96,17 +96,17 @@ module _ (needle haystack : List ℕ) (H : History) where
 
     abbrev pub BackwardNone : Type 0
     BackwardNone =
-        (nextMatchBackRule needle haystack (H .walk) .answer ≡ NextMatch.Nothing) ⊎ (nextBackRule needle haystack (H .walk) .answer ≡ Step.Done)
+        (nextMatchBackRule needle haystack (H .walk) .answer ≡ given none) ⊎ (nextBackRule needle haystack (H .walk) .answer ≡ given done)
         → Rightmost x h gap (h .size + 1) (H .backward .matches)
 
 -- ---- whole searches: the first next match from preparing on
 
--- "find gives the least position", "nothing exactly if there is none"
+-- find gives the least position, and nothing exactly if there is none
 abbrev pub FirstMatchLeast : List ℕ → List ℕ → Type 0
 FirstMatchLeast needle haystack =
     AnswersLeast (Occurs (front needle) (front haystack)) (length needle) (nextMatchRule needle haystack (newRule needle (length haystack) .walk) .answer)
 
--- "rfind the greatest"
+-- rfind the greatest
 abbrev pub LastMatchGreatest : List ℕ → List ℕ → Type 0
 LastMatchGreatest needle haystack =
     AnswersGreatest (Occurs (front needle) (front haystack)) (length needle) (nextMatchBackRule needle haystack (newRule needle (length haystack) .walk) .answer)

@@ -3,12 +3,12 @@
 -- Assumes nothing.
 use Prim.Native.Nat.{ℕ, _+_}
 use mathlib.Core.List.{List, [], _∷_, _++_}
+use mathlib.Core.Option.{Option, none, some}
 use lib.ListN.{length}
-use Rattle.searcher.specs.Walk.{newRule, nextRule, nextBackRule, nextMatchRule, nextMatchBackRule}
+use Rattle.limits.specs.Said.{Said, refused, given}
+use Rattle.searcher.specs.Walk.{StepTerm, match, reject, done, newRule, nextRule, nextBackRule, nextMatchRule, nextMatchBackRule}
 use Rattle.searcher.specs.declared.TwoWaySearcher.{TwoWaySearcher}
 use Rattle.record.specs.declared.Counts.{Counts}
-use Rattle.searcher.specs.declared.Step.{Step}
-use Rattle.searcher.specs.declared.NextMatch.{NextMatch}
 
 -- the four calls
 pub data Call : Type 0 where
@@ -28,16 +28,16 @@ pub record History : Type 0 where
   pub forward : Made
   pub backward : Made
 
-abbrev pub stepMatches : Step → List ℕ
-stepMatches (Step.Match a b) = a ∷ []
-stepMatches (Step.Reject a b) = []
-stepMatches Step.Done = []
-stepMatches (Step.Refused why) = []
+abbrev pub stepMatches : Said StepTerm → List ℕ
+stepMatches (given (match a b)) = a ∷ []
+stepMatches (given (reject a b)) = []
+stepMatches (given done) = []
+stepMatches (refused number) = []
 
-abbrev pub nextMatches : NextMatch → List ℕ
-nextMatches (NextMatch.Match a b) = a ∷ []
-nextMatches NextMatch.Nothing = []
-nextMatches (NextMatch.Refused why) = []
+abbrev pub nextMatches : Said (Option (ℕ × ℕ)) → List ℕ
+nextMatches (given (some (a, b))) = a ∷ []
+nextMatches (given none) = []
+nextMatches (refused number) = []
 
 abbrev pub nothing-made : Made
 nothing-made = record { matches = []; comparisons = 0; tests = 0 }

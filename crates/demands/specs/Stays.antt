@@ -4,25 +4,18 @@ use Prim.Native.Nat.{ℕ}
 use mathlib.Core.Path.{_≡_}
 use mathlib.Core.Bool.{true}
 use mathlib.Core.List.{List}
-use Rattle.limits.specs.declared.Refusal.{Refusal}
+use Rattle.limits.specs.Said.{refused}
 use Rattle.searcher.specs.declared.TwoWaySearcher.{TwoWaySearcher}
-use Rattle.searcher.specs.declared.Step.{Step}
-use Rattle.searcher.specs.declared.NextMatch.{NextMatch}
-use Rattle.searcher.specs.declared.Stepped.{Stepped}
-use Rattle.searcher.specs.declared.Matched.{Matched}
 use Rattle.record.specs.Fits.{fits}
-use Rattle.searcher.specs.Walk.{nextRule, nextBackRule, nextMatchRule, nextMatchBackRule}
+use Rattle.searcher.specs.Walk.{CallTold, nextRule, nextBackRule, nextMatchRule, nextMatchBackRule}
 
 module _ (needle haystack : List ℕ) where
-  abbrev pub StepStays : Stepped → Type 0
-  StepStays r = (fits needle haystack (r .walk .fixed) (r .walk .moving) ≡ true) × ((why : Refusal) → r .answer ≡ Step.Refused why → ⊥)
-
-  abbrev pub MatchStays : Matched → Type 0
-  MatchStays r = (fits needle haystack (r .walk .fixed) (r .walk .moving) ≡ true) × ((why : Refusal) → r .answer ≡ NextMatch.Refused why → ⊥)
+  abbrev pub CallStays : {A : Type 0} → CallTold A → Type 0
+  CallStays r = (fits needle haystack (r .walk .fixed) (r .walk .moving) ≡ true) × ((number : ℕ) → r .answer ≡ refused number → ⊥)
 
   -- the four calls from the state s
   pub record Stays (s : TwoWaySearcher) : Type 0 where
-    pub next : StepStays (nextRule needle haystack s)
-    pub next-back : StepStays (nextBackRule needle haystack s)
-    pub next-match : MatchStays (nextMatchRule needle haystack s)
-    pub next-match-back : MatchStays (nextMatchBackRule needle haystack s)
+    pub next : CallStays (nextRule needle haystack s)
+    pub next-back : CallStays (nextBackRule needle haystack s)
+    pub next-match : CallStays (nextMatchRule needle haystack s)
+    pub next-match-back : CallStays (nextMatchBackRule needle haystack s)

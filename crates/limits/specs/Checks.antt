@@ -1,12 +1,14 @@
 -- The checks of 01's table "Refusal numbers": what each comes to, what a row of them comes to, and what the two on lengths say.
 -- Assumes nothing.
 use Prim.Native.Nat.{ℕ, _<_, _≤_}
+use mathlib.Core.Path.{_≡_}
+use mathlib.Core.Logic.{_⊎_}
 use mathlib.Core.Bool.{Bool, cond}
 use lib.Dec.{ltb, eqb}
 use Rattle.limits.specs.Bounds.{haystackBound, needleBound}
 use Rattle.limits.specs.declared.Check.{Check}
 use Rattle.limits.specs.declared.Refusal.{Refusal}
-use Rattle.limits.specs.declared.Refusal.the-variants.{HaystackTooLong, NeedleTooLong, EmptyNeedle, StateDoesNotFit}
+use Rattle.limits.specs.declared.Refusal.the-variants.{HaystackTooLong, NeedleTooLong, EmptyNeedle}
 
 -- one check: it refuses where its test says so
 abbrev pub refuseIf : Bool → Refusal → Check
@@ -30,9 +32,6 @@ pub record Within (n m : ℕ) : Type 0 where
   pub haystack-in : n ≤ haystackBound
   pub needle-in : m ≤ needleBound
 
--- "Given exactly when": what a refusal by the checks of the lengths says of them
-abbrev pub RefusedRightly : ℕ → ℕ → Refusal → Type 0
-RefusedRightly n m HaystackTooLong = haystackBound < n
-RefusedRightly n m NeedleTooLong = (n ≤ haystackBound) × (needleBound < m)
-RefusedRightly n m EmptyNeedle = ⊥
-RefusedRightly n m StateDoesNotFit = ⊥
+-- "Given exactly when": what a refusal by the checks of the lengths says of them, by its number
+abbrev pub RefusedRightly : ℕ → ℕ → ℕ → Type 0
+RefusedRightly n m number = ((number ≡ 1) × (haystackBound < n)) ⊎ ((number ≡ 2) × (n ≤ haystackBound) × (needleBound < m))

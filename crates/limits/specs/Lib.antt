@@ -1,4 +1,5 @@
 pub mod Bounds
 pub mod Refusals
+pub mod Said
 pub mod Checks
 pub mod Examples

@@ -1,4 +1,2 @@
 pub mod Examples
-pub mod InRoom
-pub mod Printing
 pub mod Reading

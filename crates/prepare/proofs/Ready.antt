@@ -2,7 +2,7 @@
 -- for one that is refused, a record that fits nothing.
 -- Assumes nothing.
 use Prim.Native.Nat.{ℕ, _+_, _-_, _*_, _<_, _≤_, min, max}
-use mathlib.Core.Path.{_≡_, refl}
+use mathlib.Core.Path.{_≡_, refl, ap}
 use mathlib.Core.Bool.{Bool, true, false, cond}
 use mathlib.Core.Logic.{inl, inr}
 use mathlib.Core.List.{List}
@@ -19,13 +19,15 @@ use Rattle.words.specs.Critical.{LaterStart}
 use Rattle.words.proofs.Decided.{smallestPeriod-is}
 use Rattle.words.proofs.Mirror.{period-mirror}
 use Rattle.words.proofs.Critical.{later-start, split-below, smallest-mirror}
+use Rattle.limits.specs.Said.{Said, refused, given, LosesNothing}
+use Rattle.limits.proofs.Said.{by-way-back, refusalOf, refusal-again}
+use Rattle.limits.specs.declared.Check.{Check}
 use Rattle.limits.specs.declared.Refusal.{Refusal}
 use Rattle.suffix.specs.Rounds.{rounds}
 use Rattle.suffix.proofs.Maximal.{known-found}
-use Rattle.prepare.specs.declared.Preparation.the-variants.{Ready}
-use Rattle.prepare.specs.declared.Parts.{Parts}
 use Rattle.record.specs.Fits.{fits}
-use Rattle.prepare.specs.Prepare.{chosen, agreed, forwardRounds, prepareShort, prepareLong, fiveSteps, refuse}
+use Rattle.prepare.specs.declared.Preparation.{Preparation}
+use Rattle.prepare.specs.Prepare.{preparationSaid, PartsTold, chosen, agreed, forwardRounds, prepareShort, prepareLong, fiveSteps, refuse, checks, orParts, prepareRule, NoState}
 use Rattle.record.specs.Kinds.{forwardCursor, backwardCursor}
 use Rattle.prepare.proofs.Chosen.{chosen-split, chosen-fits, chosen-short, chosen-long, forward-few, reverse-few}
 use Rattle.record.proofs.Fitting.{StateFits, decides-fits}
@@ -101,7 +103,7 @@ module _ (needle : List ℕ) where
         }
 
   -- what is shown of both kinds holds of every prepared state
-  pub by-kind : (n : ℕ) (P : Parts → Type 0) → 0 < length needle
+  pub by-kind : (n : ℕ) (P : PartsTold → Type 0) → 0 < length needle
       → (IsLong (front needle) c → P (prepareLong needle n c (forwardRounds needle + pairs)))
       → (IsShort (front needle) c p (reverseStart needle p) → P (prepareShort needle n c p (forwardRounds needle + pairs)))
       → P (fiveSteps needle n)
@@ -119,11 +121,6 @@ module _ (needle : List ℕ) where
 -- ---- what every prepared state is
 
 module _ (needle : List ℕ) (pos : 0 < length needle) where
-  -- "Ready": within the bounds, and not empty, no needle is refused
-  pub prepared-ready : (n : ℕ) → fiveSteps needle n .answer ≡ Ready
-  unfolding prepareShort prepareLong
-  prepared-ready n = by-kind needle n (λ r. r .answer ≡ Ready) pos (λ k. refl) (λ k. refl)
-
   -- 5. "`position` 0, `end` n", and 3. "memories are 0 and m"
   pub prepared-start : (n : ℕ) → forwardCursor (fiveSteps needle n .moving) ≡ record { at = 0; memory = 0 }
   unfolding prepareShort prepareLong
@@ -173,11 +170,41 @@ module _ (needle : List ℕ) (pos : 0 < length needle) where
 -- ---- what is handed back where nothing is prepared
 
 -- Long's split is at least 1, so this record fits no needle, the empty one included.
-pub refused-fits-nothing : (why : Refusal) (needle haystack : List ℕ) → fits needle haystack (refuse why .fixed) (refuse why .moving) ≡ false
-refused-fits-nothing why needle haystack = go _ refl
+refuse-fits-nothing : (why : Refusal) (needle haystack : List ℕ) → fits needle haystack (refuse why .fixed) (refuse why .moving) ≡ false
+refuse-fits-nothing why needle haystack = go _ refl
   where
     go : (b : Bool) → fits needle haystack (refuse why .fixed) (refuse why .moving) ≡ b → b ≡ false
     go false e = refl
     go true e =
         let k = decides-fits needle haystack (refuse why .fixed) (refuse why .moving) .sound e in
         absurd (omega arith)
+
+-- what the five steps give is not refused
+pub prepared-ready : (needle : List ℕ) (n : ℕ) → fiveSteps needle n .answer ≡ given tt
+unfolding fiveSteps prepareShort prepareLong
+prepared-ready needle n = go (ltb (agreed needle (chosen needle .start) (chosen needle .period)) (chosen needle .start)) _ _ refl refl
+  where
+    go : (b : Bool) (long short : PartsTold) → long .answer ≡ given tt → short .answer ≡ given tt → cond b long short .answer ≡ given tt
+    go true long short l s = l
+    go false long short l s = s
+
+pub refused-fits-nothing : (needle : List ℕ) (n : ℕ) → NoState (prepareRule needle n)
+unfolding prepareRule
+refused-fits-nothing needle n = go (checks (length needle) n)
+  where
+    go : (c : Check) → NoState (orParts c (fiveSteps needle n))
+    go Check.Pass number e = let q = prepared-ready needle n in let z : _≡_ {A = ℕ} 0 1 = cc in absurd (omega arith)
+    go (Check.Refuse why) number e = refuse-fits-nothing why
+
+-- ---- what preparing answers says loses nothing
+
+pub preparation-loses-nothing : LosesNothing preparationSaid
+preparation-loses-nothing = by-way-back preparationSaid back-to again
+  where
+    back-to : Said (Unit {0}) → Preparation
+    back-to (given x) = Preparation.Ready
+    back-to (refused number) = Preparation.Refused (refusalOf number)
+
+    again : (a : Preparation) → back-to (preparationSaid a) ≡ a
+    again Preparation.Ready = refl
+    again (Preparation.Refused why) = ap Preparation.Refused (refusal-again why)

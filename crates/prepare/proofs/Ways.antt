@@ -1,7 +1,7 @@
 -- What each return of the functions that prepare has to show.
 -- Assumes nothing.
 use Prim.Native.Nat.{ℕ, _+_, _-_, _*_, _<_, _≤_, min, max}
-use mathlib.Core.Path.{_≡_, refl, sym, _∙_}
+use mathlib.Core.Path.{_≡_, refl, sym, _∙_, ap, subst}
 use mathlib.Core.Bool.{Bool, true, false}
 use mathlib.Core.List.{List}
 use mathlib.Core.Option.{none, some}
@@ -18,6 +18,7 @@ use Rattle.words.proofs.Mirror.{period-mirror}
 use Rattle.words.proofs.Critical.{part-fits}
 use Rattle.limits.specs.Bounds.{needleBound}
 use Rattle.limits.specs.Checks.{lengths, andThen, refuseIf}
+use Rattle.limits.specs.Said.{given}
 use Rattle.limits.specs.declared.Check.{Check}
 use Rattle.limits.specs.declared.Refusal.{Refusal}
 use Rattle.limits.specs.declared.Refusal.the-variants.{EmptyNeedle}
@@ -26,44 +27,44 @@ use Rattle.limits.proofs.Checks.{lengths-pass}
 use Rattle.byteset.specs.Fingerprint.{fingerprint}
 use Rattle.compare.specs.Agree.{agree}
 use Rattle.suffix.specs.Rounds.{rounds}
-use Rattle.suffix.specs.Answer.{maximalRule, reverseRule}
+use Rattle.suffix.specs.Answer.{suffixSaid, reverseSaid, maximalRule, reverseRule}
 use Rattle.suffix.specs.declared.Suffix.{Suffix}
 use Rattle.suffix.specs.declared.ReverseSuffix.{ReverseSuffix}
 use Rattle.suffix.specs.declared.SuffixAnswer.{SuffixAnswer}
 use Rattle.suffix.specs.declared.ReverseAnswer.{ReverseAnswer}
 use Rattle.suffix.proofs.Maximal.{plain-found, known-found}
 use Rattle.record.specs.declared.Memory.the-variants.{Long, Short}
-use Rattle.prepare.specs.declared.Parts.{Parts}
-use Rattle.prepare.specs.Prepare.{toReverse, chosen, choice, forwardRounds, reverseRounds, agreed, prepareShort, prepareLong, ready, fiveSteps, refuse, checks, prepareRule}
+use Rattle.prepare.specs.Prepare.{PartsTold, toReverse, chosen, choice, forwardRounds, reverseRounds, agreed, prepareShort, prepareLong, ready, fiveSteps, refuse, checks, prepareRule, NoState}
 use Rattle.prepare.proofs.Chosen.{forward-few, reverse-few, chosen-short}
+use Rattle.prepare.proofs.Ready.{refused-fits-nothing}
 
 -- ---- the passes, which refuse nothing within the bound
 
 module _ (g : Bool) (needle : List ℕ) (small : length needle ≤ needleBound) where
-  maximal-is : maximalRule g needle ≡ SuffixAnswer.Found (rounds g (front needle) none)
+  maximal-is : maximalRule g needle ≡ given (rounds g (front needle) none)
   unfolding maximalRule
   maximal-is = rw (le-ltb _ _ small)
 
-  pub maximal-found : {r : SuffixAnswer} {s : Suffix} → r ≡ maximalRule g needle → r ≡ SuffixAnswer.Found s → s ≡ rounds g (front needle) none
-  maximal-found e f = let q = maximal-is in cc
+  pub maximal-found : {r : SuffixAnswer} {s : Suffix} → suffixSaid r ≡ maximalRule g needle → r ≡ SuffixAnswer.Found s → s ≡ rounds g (front needle) none
+  maximal-found e f = let q = sym (ap suffixSaid f) ∙ e ∙ maximal-is in cc
 
-  pub maximal-not-refused : {r : SuffixAnswer} {s t : Suffix} {why : Refusal} → r ≡ maximalRule g needle → r ≡ SuffixAnswer.Refused why → s ≡ t
+  pub maximal-not-refused : {r : SuffixAnswer} {s t : Suffix} {why : Refusal} → suffixSaid r ≡ maximalRule g needle → r ≡ SuffixAnswer.Refused why → s ≡ t
   maximal-not-refused e f =
-      let q = maximal-is in
+      let q = sym (ap suffixSaid f) ∙ e ∙ maximal-is in
       let z : _≡_ {A = ℕ} 0 1 = cc in
       absurd (omega arith)
 
   module _ (known : ℕ) where
-    reverse-is : reverseRule g known needle ≡ ReverseAnswer.Found (toReverse (rounds g (back needle) (some known)))
+    reverse-is : reverseRule g known needle ≡ given (toReverse (rounds g (back needle) (some known)))
     unfolding reverseRule
     reverse-is = rw (le-ltb _ _ small)
 
-    pub reverse-found : {r : ReverseAnswer} {s : ReverseSuffix} → r ≡ reverseRule g known needle → r ≡ ReverseAnswer.Found s → s ≡ toReverse (rounds g (back needle) (some known))
-    reverse-found e f = let q = reverse-is in cc
+    pub reverse-found : {r : ReverseAnswer} {s : ReverseSuffix} → reverseSaid r ≡ reverseRule g known needle → r ≡ ReverseAnswer.Found s → s ≡ toReverse (rounds g (back needle) (some known))
+    reverse-found e f = let q = sym (ap reverseSaid f) ∙ e ∙ reverse-is in cc
 
-    pub reverse-not-refused : {r : ReverseAnswer} {s t : ReverseSuffix} {why : Refusal} → r ≡ reverseRule g known needle → r ≡ ReverseAnswer.Refused why → s ≡ t
+    pub reverse-not-refused : {r : ReverseAnswer} {s t : ReverseSuffix} {why : Refusal} → reverseSaid r ≡ reverseRule g known needle → r ≡ ReverseAnswer.Refused why → s ≡ t
     reverse-not-refused e f =
-        let q = reverse-is in
+        let q = sym (ap reverseSaid f) ∙ e ∙ reverse-is in
         let z : _≡_ {A = ℕ} 0 1 = cc in
         absurd (omega arith)
 
@@ -110,7 +111,7 @@ module _ (needle : List ℕ) (p : ℕ) {lower higher : ReverseSuffix} (period : 
   pub counted-fit : (counted : ℕ) → counted ≤ 5 * length needle → Fits w64 (counted + (lower .rounds + higher .rounds))
   counted-fit counted h = record { fits = omega (arith, reverse-both-few, needle-room) }
 
-  pub short-is : (n c before : ℕ) {later set : ℕ} {r : Parts}
+  pub short-is : (n c before : ℕ) {later set : ℕ} {r : PartsTold}
       → r ≡ ready
       (record {
         «needle_len» = length needle;
@@ -129,7 +130,7 @@ module _ (needle : List ℕ) (p : ℕ) {lower higher : ReverseSuffix} (period : 
 
 -- ---- step 4
 
-pub long-is : (needle : List ℕ) (n c before : ℕ) {longer set : ℕ} {r : Parts}
+pub long-is : (needle : List ℕ) (n c before : ℕ) {longer set : ℕ} {r : PartsTold}
     → r ≡ ready
     (record {
       «needle_len» = length needle;
@@ -156,7 +157,7 @@ module _ (needle : List ℕ) {split : Suffix} {k : ℕ} (pos : 0 < length needle
   pub whole-period : split .start ≤ k → Period (front needle) (split .period)
   whole-period h = rw e (chosen-short needle pos (rw (e, k-is) at h) .holds)
 
-  pub steps-long : (n : ℕ) {r : Parts} → r ≡ prepareLong needle n (split .start) (split .rounds + (k + 1)) → k < split .start → r ≡ fiveSteps needle n
+  pub steps-long : (n : ℕ) {r : PartsTold} → r ≡ prepareLong needle n (split .start) (split .rounds + (k + 1)) → k < split .start → r ≡ fiveSteps needle n
   unfolding fiveSteps
   steps-long n a h =
       let j = agreed needle (chosen needle .start) (chosen needle .period) in
@@ -164,7 +165,7 @@ module _ (needle : List ℕ) {split : Suffix} {k : ℕ} (pos : 0 < length needle
       let pairs : min (j + 1) (chosen needle .start) ≡ j + 1 = omega arith in
       a ∙ rw (e, k-is, lt-ltb _ _ l, pairs)
 
-  pub steps-short : (n : ℕ) {r : Parts} → r ≡ prepareShort needle n (split .start) (split .period) (split .rounds + split .start)
+  pub steps-short : (n : ℕ) {r : PartsTold} → r ≡ prepareShort needle n (split .start) (split .period) (split .rounds + split .start)
       → split .start ≤ k → r ≡ fiveSteps needle n
   unfolding fiveSteps
   steps-short n a h =
@@ -190,13 +191,17 @@ module _ (m n : ℕ) {c : Check} (e : c ≡ lengths n m) where
     check-passes z = rw (← e, passed, ne-eqb _ _ z)
 
 module _ (needle : List ℕ) (n : ℕ) {c : Check} (e : c ≡ checks (length needle) n) where
-  pub prepare-refuses : {why : Refusal} {r : Parts} → r ≡ refuse why → c ≡ Check.Refuse why → r ≡ prepareRule needle n
+  pub prepare-refuses : {why : Refusal} {r : PartsTold} → r ≡ refuse why → c ≡ Check.Refuse why → r ≡ prepareRule needle n
   unfolding prepareRule
   prepare-refuses q h = q ∙ rw (← e, h)
 
-  pub prepare-steps : {r : Parts} → r ≡ fiveSteps needle n → c ≡ Check.Pass → r ≡ prepareRule needle n
+  pub prepare-steps : {r : PartsTold} → r ≡ fiveSteps needle n → c ≡ Check.Pass → r ≡ prepareRule needle n
   unfolding prepareRule
   prepare-steps q h = q ∙ rw (← e, h)
+
+-- what each return of preparing has to show, from the rule's answer alone
+pub prepare-settled : (needle : List ℕ) (n : ℕ) {r : PartsTold} → r ≡ prepareRule needle n → (r ≡ prepareRule needle n) × NoState r
+prepare-settled needle n e = (e, subst NoState (sym e) (refused-fits-nothing needle n))
 
 -- what passes is not empty, and within the bound
 module _ (m n : ℕ) {c : Check} (e : c ≡ checks m n) (h : c ≡ Check.Pass) where

@@ -1,6 +1,7 @@
 -- Preparing: 01's "Preparing", step by step, with the preparing count of "Whole searches and counts".
 -- Assumes nothing.
 use Prim.Native.Nat.{ℕ, _+_, _-_, min, max}
+use mathlib.Core.Path.{_≡_}
 use mathlib.Core.Bool.{true, false, cond}
 use mathlib.Core.List.{List}
 use mathlib.Core.Option.{none, some}
@@ -8,6 +9,8 @@ use lib.Dec.{ltb}
 use lib.ListN.{length, take, drop}
 use Rattle.words.specs.Word.{front, back}
 use Rattle.limits.specs.Checks.{lengths, andThen, nonempty}
+use Rattle.limits.specs.Refusals.{numberOf}
+use Rattle.limits.specs.Said.{Said, refused, given}
 use Rattle.limits.specs.declared.Check.{Check}
 use Rattle.limits.specs.declared.Refusal.{Refusal}
 use Rattle.byteset.specs.Fingerprint.{fingerprint}
@@ -15,10 +18,13 @@ use Rattle.compare.specs.Agree.{agree}
 use Rattle.suffix.specs.Rounds.{rounds}
 use Rattle.suffix.specs.declared.Suffix.{Suffix}
 use Rattle.suffix.specs.declared.ReverseSuffix.{ReverseSuffix}
+use Rattle.record.specs.Fits.{fits}
 use Rattle.record.specs.declared.Memory.{Memory}
 use Rattle.record.specs.declared.Memory.the-variants.{Long, Short}
 use Rattle.record.specs.declared.Fixed.{Fixed}
+use Rattle.record.specs.declared.Moving.{Moving}
 use Rattle.record.specs.declared.Counts.{Counts}
+use Rattle.prepare.specs.declared.Preparation.{Preparation}
 use Rattle.prepare.specs.declared.Preparation.the-variants.{Ready, Refused}
 use Rattle.prepare.specs.declared.Parts.{Parts}
 
@@ -40,18 +46,33 @@ forwardRounds needle = rounds false (front needle) none .rounds + rounds true (f
 unfoldable pub reverseRounds : List ℕ → ℕ → ℕ
 reverseRounds needle p = rounds false (back needle) (some p) .rounds + rounds true (back needle) (some p) .rounds
 
+-- what an answer says: its refusal's number, or that a state is given
+abbrev pub preparationSaid : Preparation → Said (Unit {0})
+preparationSaid Ready = given tt
+preparationSaid (Refused why) = refused (numberOf why)
+
+-- that, the two parts of the record, and the counts
+pub record PartsTold : Type 0 where
+  pub answer : Said (Unit {0})
+  pub fixed : Fixed
+  pub moving : Moving
+  pub counts : Counts
+
+abbrev pub partsTold : Parts → PartsTold
+partsTold r = record { answer = preparationSaid (r .answer); fixed = r .fixed; moving = r .moving; counts = r .counts }
+
 -- the counts of a call that only prepares
 abbrev pub preparing : ℕ → Counts
 preparing k = record { preparing = k; comparisons = 0; tests = 0 }
 
 -- 5. "`position` 0, `end` n."
-abbrev pub ready : Fixed → Memory → ℕ → Parts
+abbrev pub ready : Fixed → Memory → ℕ → PartsTold
 ready f memory k =
-    record { answer = Ready; fixed = f; moving = record { position = 0; end = f .«haystack_len»; memory = memory }; counts = preparing k }
+    record { answer = given tt; fixed = f; moving = record { position = 0; end = f .«haystack_len»; memory = memory }; counts = preparing k }
 
 -- 3. "Equal: Short. p is kept and b is m minus the greater of the two reverse starts. `byteset` covers the first p bytes; memories are 0 and m."
 -- `before` is what was counted before the reverse passes.
-unfoldable pub prepareShort : List ℕ → ℕ → ℕ → ℕ → ℕ → Parts
+unfoldable pub prepareShort : List ℕ → ℕ → ℕ → ℕ → ℕ → PartsTold
 prepareShort needle n c p before =
     let lower = rounds false (back needle) (some p) in
     let higher = rounds true (back needle) (some p) in
@@ -68,7 +89,7 @@ prepareShort needle n c p before =
     (before + reverseRounds needle p)
 
 -- 4. "Different: Long, p = max(c, m-c)+1, b = c, `byteset` covers the whole needle."
-unfoldable pub prepareLong : List ℕ → ℕ → ℕ → ℕ → Parts
+unfoldable pub prepareLong : List ℕ → ℕ → ℕ → ℕ → PartsTold
 prepareLong needle n c before =
     ready
     (record {
@@ -83,7 +104,7 @@ prepareLong needle n c before =
     before
 
 -- the five steps
-unfoldable pub fiveSteps : List ℕ → ℕ → Parts
+unfoldable pub fiveSteps : List ℕ → ℕ → PartsTold
 fiveSteps needle n =
     let c = chosen needle .start in
     let p = chosen needle .period in
@@ -99,11 +120,11 @@ toReverse r = record { start = r .start; rounds = r .rounds }
 abbrev pub choice : List ℕ → Suffix
 choice needle = record { start = chosen needle .start; period = chosen needle .period; rounds = forwardRounds needle }
 
--- "refused, it gives no state": the record is then this one, which fits no needle
-abbrev pub refuse : Refusal → Parts
+-- "refused, it gives no state": the record is then this one, which fits nothing (`NoState`)
+abbrev pub refuse : Refusal → PartsTold
 refuse why =
     record {
-      answer = Refused why;
+      answer = refused (numberOf why);
       fixed = record { «needle_len» = 0; «haystack_len» = 0; «crit_pos» = 0; «crit_pos_back» = 0; period = 0; byteset = 0 };
       moving = record { position = 0; end = 0; memory = Long };
       counts = preparing 0;
@@ -113,9 +134,13 @@ refuse why =
 unfoldable pub checks : ℕ → ℕ → Check
 checks m n = andThen (lengths n m) (nonempty m)
 
-abbrev pub orParts : Check → Parts → Parts
+abbrev pub orParts : Check → PartsTold → PartsTold
 orParts Check.Pass otherwise = otherwise
 orParts (Check.Refuse why) otherwise = refuse why
 
-unfoldable pub prepareRule : List ℕ → ℕ → Parts
+unfoldable pub prepareRule : List ℕ → ℕ → PartsTold
 prepareRule needle n = orParts (checks (length needle) n) (fiveSteps needle n)
+
+-- "refused, it gives no state": what is handed back then fits no needle and no haystack
+abbrev pub NoState : PartsTold → Type 0
+NoState r = (number : ℕ) → r .answer ≡ refused number → (needle haystack : List ℕ) → fits needle haystack (r .fixed) (r .moving) ≡ false

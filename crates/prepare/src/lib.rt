@@ -17,14 +17,14 @@ ghost use Rattle.words.specs.Word.{front, back};
 ghost use Rattle.words.specs.Period.{Period};
 ghost use Rattle.limits.specs.Bounds.{needleBound};
 ghost use Rattle.suffix.specs.Rounds.{rounds};
-ghost use Rattle.prepare.specs.Prepare.{choice, toReverse, prepareShort, prepareLong, refuse, ready, fiveSteps, checks, prepareRule};
+ghost use Rattle.prepare.specs.Prepare.{choice, toReverse, partsTold, prepareShort, prepareLong, refuse, ready, fiveSteps, checks, prepareRule, NoState};
 
 pub enum Preparation {
     Ready,
     Refused(Refusal),
 }
 
-// What preparing comes to: the two parts of a record, and the count. Where it refuses, they are no state: they fit no needle.
+// What preparing comes to: the two parts of a record, and the count. Where it refuses, they are no state.
 pub struct Parts {
     pub answer: Preparation,
     pub fixed: Fixed,
@@ -99,7 +99,7 @@ fn counted(preparing: usize) -> Counts
 
 // A walk that is ready: both directions stand at their ends of the haystack.
 fn prepared(fixed: Fixed, memory: Memory, preparing: usize) -> Parts
-    ensures { λ r. ⌜ r ≡ ready fixed memory preparing ⌝ }
+    ensures { λ r. ⌜ partsTold r ≡ ready fixed memory preparing ⌝ }
 {
     Parts {
         answer: Preparation::Ready,
@@ -116,7 +116,7 @@ fn prepared(fixed: Fixed, memory: Memory, preparing: usize) -> Parts
 // Step 3: p is a period of the needle, and the reverse passes stop where they find it. `before` is what was counted before them.
 fn short(needle: &[u8], n: usize, c: usize, p: usize, before: usize) -> Parts
     requires { ⌜ Period (front (now needle)) p × (length (now needle) ≤ needleBound) × (before ≤ 5 * length (now needle)) ⌝ }
-    ensures { λ r. ⌜ r ≡ prepareShort (now (needle .entry)) n c p before ⌝ }
+    ensures { λ r. ⌜ partsTold r ≡ prepareShort (now (needle .entry)) n c p before ⌝ }
 {
     let m = needle.len();
     let lower = reverse_maximal(needle, p, false);
@@ -140,7 +140,7 @@ fn short(needle: &[u8], n: usize, c: usize, p: usize, before: usize) -> Parts
 // Step 4: it is none, so the period that is kept is only one that is safe to move by.
 fn long(needle: &[u8], n: usize, c: usize, before: usize) -> Parts
     requires { ⌜ c ≤ length (now needle) ⌝ }
-    ensures { λ r. ⌜ r ≡ prepareLong (now (needle .entry)) n c before ⌝ }
+    ensures { λ r. ⌜ partsTold r ≡ prepareLong (now (needle .entry)) n c before ⌝ }
 {
     let m = needle.len();
     let fixed = Fixed {
@@ -157,7 +157,7 @@ fn long(needle: &[u8], n: usize, c: usize, before: usize) -> Parts
 // The five steps, for a needle that is not empty and within the bound.
 fn five_steps(needle: &[u8], n: usize) -> Parts
     requires { ⌜ (0 < length (now needle)) × (length (now needle) ≤ needleBound) ⌝ }
-    ensures { λ r. ⌜ r ≡ fiveSteps (now (needle .entry)) n ⌝ }
+    ensures { λ r. ⌜ partsTold r ≡ fiveSteps (now (needle .entry)) n ⌝ }
 {
     let split = choose(needle);
     let c = split.start;
@@ -171,7 +171,7 @@ fn five_steps(needle: &[u8], n: usize) -> Parts
 
 // What is handed back where nothing is prepared.
 fn refused(why: Refusal) -> Parts
-    ensures { λ r. ⌜ r ≡ refuse why ⌝ }
+    ensures { λ r. ⌜ partsTold r ≡ refuse why ⌝ }
 {
     Parts {
         answer: Preparation::Refused(why),
@@ -208,7 +208,8 @@ fn check(needle: &[u8], n: usize) -> Check
 
 // Prepares a walk for a needle in a haystack of n bytes.
 pub fn prepare(needle: &[u8], n: usize) -> Parts
-    ensures { λ r. ⌜ r ≡ prepareRule (now (needle .entry)) n ⌝ }
+    ensures rule { λ r. ⌜ partsTold r ≡ prepareRule (now (needle .entry)) n ⌝ }
+    ensures meaning { λ r. ⌜ NoState (partsTold r) ⌝ }
 {
     let check = check(needle, n);
     if let Check::Refuse(why) = check {

@@ -14,9 +14,9 @@ use Rattle.words.specs.Word.{Word, front, back}
 use Rattle.words.specs.Choice.{Least, Greatest, None, FindsLeast, FindsGreatest}
 use Rattle.words.specs.Occurs.{Occurs}
 use Rattle.words.proofs.Tests.{First, first-is, least-at, least-none}
-use Rattle.scan.specs.Scanned.{placeOf, before, scanned, fromFront, fromBack}
+use Rattle.scan.specs.Scanned.{placeOf, ScanTold, before, scanned, fromFront, fromBack}
+use Rattle.scan.specs.declared.Found.{Found}
 use Rattle.scan.specs.declared.Found.the-variants.{At, Nothing}
-use Rattle.scan.specs.declared.Scan.{Scan}
 
 -- w has k letters, and none of its first k is x
 pub record Missed (x : ℕ) (w : Word) (k : ℕ) : Type 0 where
@@ -33,20 +33,30 @@ module _ {x : ℕ} {w : Word} where
       record { inside = omega arith; other = below-more _ _ (m .other) (λ z. q (e ∙ z)) }
 
   -- a scan that passed k letters and stands at x, and one that passed them all
-  scanned-hit : (place : ℕ → ℕ) {k a : ℕ} → a ≡ x → a ≡ w .letter k → Missed x w k → k < w .size → scanned x w place ≡ record { found = At (place k); comparisons = k + 1 }
+  scanned-hit : (place : ℕ → ℕ) {k a : ℕ} → a ≡ x → a ≡ w .letter k → Missed x w k → k < w .size → scanned x w place ≡ record { place = some (place k); comparisons = k + 1 }
   unfolding scanned before
   scanned-hit place {k} q e m h =
       rw (least-at (λ i. eqb (w .letter i) x) (w .size) k h (eq-eqb _ _ (sym e ∙ q)) (λ j hj. ne-eqb _ _ (m .other j hj)), lt-ltb k (w .size) h)
 
-  scanned-miss : (place : ℕ → ℕ) {k : ℕ} → Missed x w k → w .size ≤ k → scanned x w place ≡ record { found = Nothing; comparisons = w .size }
+  scanned-miss : (place : ℕ → ℕ) {k : ℕ} → Missed x w k → w .size ≤ k → scanned x w place ≡ record { place = none; comparisons = w .size }
   unfolding scanned before
   scanned-miss place m h =
       rw (least-none (λ i. eqb (w .letter i) x) (w .size) (λ j hj. ne-eqb _ _ (m .other j (omega arith))), le-ltb (w .size) (w .size) (omega arith))
 
 module _ (x : ℕ) (w : Word) (place : ℕ → ℕ) where
+  -- a scan compares no byte twice
+  pub scan-few : scanned x w place .comparisons ≤ w .size
+  unfolding scanned
+  scan-few = go (ltb (before x w) (w .size)) refl
+    where
+      go : (b : Bool) → ltb (before x w) (w .size) ≡ b
+          → cond {A = ScanTold} b (record { place = some (place (before x w)); comparisons = before x w + 1 }) (record { place = none; comparisons = w .size }) .comparisons ≤ w .size
+      go true e = let h = ltb-true (before x w) (w .size) e in omega arith
+      go false e = omega arith
+
   -- what the rule's answer means, for any reading M of a place: a hit and a miss have to be shown
   means : (M : Option ℕ → Type 0) → ((k : ℕ) → k < w .size → w .letter k ≡ x → Missed x w k → M (some (place k))) → (Missed x w (w .size) → M none)
-      → M (placeOf (scanned x w place .found))
+      → M (scanned x w place .place)
   unfolding scanned before
   means M hit miss = go (ltb (before x w) (w .size)) refl
     where
@@ -54,7 +64,7 @@ module _ (x : ℕ) (w : Word) (place : ℕ → ℕ) where
       passed = first-is (λ i. eqb (w .letter i) x) (w .size) 0
 
       go : (b : Bool) → ltb (before x w) (w .size) ≡ b
-          → M (placeOf (cond {A = Scan} b (record { found = At (place (before x w)); comparisons = before x w + 1 }) (record { found = Nothing; comparisons = w .size }) .found))
+          → M (cond {A = ScanTold} b (record { place = some (place (before x w)); comparisons = before x w + 1 }) (record { place = none; comparisons = w .size }) .place)
       go true e =
           let h = ltb-true (before x w) (w .size) e in
           hit (before x w) h (eqb-true _ _ (passed .found (omega arith))) (record { inside = omega arith; other = λ j hj. eqb-false _ _ (passed .missed j (omega arith) hj) })
@@ -79,15 +89,15 @@ module _ (x : ℕ) (text : List ℕ) where
   is-letter : (k : ℕ) → Stands k → getD text k 0 ≡ x
   is-letter k o = sym (o .same 0 k (omega arith) (omega arith))
 
-  -- "find gives the least position .. nothing exactly if there is none", of one byte
-  pub front-means : FindsLeast Stands (placeOf (fromFront x text .found))
+  -- find gives the least position, and nothing exactly if there is none, of one byte
+  pub front-means : FindsLeast Stands (fromFront x text .place)
   front-means =
       means x (front text) (λ k. k) (FindsLeast Stands)
       (λ k h e m. record { holds = stands k h e; none-before = λ j hj o. m .other j hj (is-letter j o) })
       (λ m j o. let f = o .fits in m .other j (omega arith) (is-letter j o))
 
-  -- "rfind the greatest"
-  pub back-means : FindsGreatest Stands (placeOf (fromBack x text .found))
+  -- rfind the greatest
+  pub back-means : FindsGreatest Stands (fromBack x text .place)
   back-means =
       means x (back text) (λ k. length text - (1 + k)) (FindsGreatest Stands)
       (λ k h e m. record {
@@ -97,22 +107,34 @@ module _ (x : ℕ) (text : List ℕ) where
       (λ m j o. let f = o .fits in m .other (length text - (1 + j)) (omega arith) (ap (λ (y : ℕ). getD text y 0) (omega arith) ∙ is-letter j o))
 
   -- What each return of a scan has to show: the rule's answer, and what it means.
-  front-settled : (r : Scan) → fromFront x text ≡ r → (r ≡ fromFront x text) × FindsLeast Stands (placeOf (r .found))
-  front-settled r e = (sym e, subst (λ (y : Scan). FindsLeast Stands (placeOf (y .found))) e front-means)
+  front-settled : (r : ScanTold) → fromFront x text ≡ r → (r ≡ fromFront x text) × FindsLeast Stands (r .place)
+  front-settled r e = (sym e, subst (λ (y : ScanTold). FindsLeast Stands (y .place)) e front-means)
 
-  back-settled : (r : Scan) → fromBack x text ≡ r → (r ≡ fromBack x text) × FindsGreatest Stands (placeOf (r .found))
-  back-settled r e = (sym e, subst (λ (y : Scan). FindsGreatest Stands (placeOf (y .found))) e back-means)
+  back-settled : (r : ScanTold) → fromBack x text ≡ r → (r ≡ fromBack x text) × FindsGreatest Stands (r .place)
+  back-settled r e = (sym e, subst (λ (y : ScanTold). FindsGreatest Stands (y .place)) e back-means)
 
   pub front-hit : {k a : ℕ} → Missed x (front text) k → k < length text → a ≡ x → a ≡ getD text k 0
-      → (record { found = At k; comparisons = k + 1 } ≡ fromFront x text) × Least Stands k
+      → (record { place = some k; comparisons = k + 1 } ≡ fromFront x text) × Least Stands k
   front-hit m h q e = front-settled _ (scanned-hit (λ k. k) q e m h)
 
-  pub front-miss : {k : ℕ} → Missed x (front text) k → length text ≤ k → (record { found = Nothing; comparisons = length text } ≡ fromFront x text) × None Stands
+  pub front-miss : {k : ℕ} → Missed x (front text) k → length text ≤ k → (record { place = none; comparisons = length text } ≡ fromFront x text) × None Stands
   front-miss m h = front-settled _ (scanned-miss (λ k. k) m h)
 
   pub back-hit : {k a : ℕ} → Missed x (back text) k → k < length text → a ≡ x → a ≡ getD text (length text - (1 + k)) 0
-      → (record { found = At (length text - (1 + k)); comparisons = k + 1 } ≡ fromBack x text) × Greatest Stands (length text - (1 + k))
+      → (record { place = some (length text - (1 + k)); comparisons = k + 1 } ≡ fromBack x text) × Greatest Stands (length text - (1 + k))
   back-hit m h q e = back-settled _ (scanned-hit (λ k. length text - (1 + k)) q e m h)
 
-  pub back-miss : {k : ℕ} → Missed x (back text) k → length text ≤ k → (record { found = Nothing; comparisons = length text } ≡ fromBack x text) × None Stands
+  pub back-miss : {k : ℕ} → Missed x (back text) k → length text ≤ k → (record { place = none; comparisons = length text } ≡ fromBack x text) × None Stands
   back-miss m h = back-settled _ (scanned-miss (λ k. length text - (1 + k)) m h)
+
+-- what a scan's answer says loses nothing
+pub place-loses-nothing : (a b : Found) → placeOf a ≡ placeOf b → a ≡ b
+place-loses-nothing a b e = sym (again a) ∙ ap back-to e ∙ again b
+  where
+    back-to : Option ℕ → Found
+    back-to (some k) = At k
+    back-to none = Nothing
+
+    again : (a : Found) → back-to (placeOf a) ≡ a
+    again (At k) = refl
+    again Nothing = refl

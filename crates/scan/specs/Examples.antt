@@ -2,22 +2,20 @@
 -- The letters are ASCII: "a" is 97, "c" 99. Assumes nothing.
 use Prim.Native.Nat.{ℕ}
 use mathlib.Core.List.{List, [], _∷_}
+use mathlib.Core.Option.{Option, none, some}
 use lib.Dec.{T}
 use Rattle.words.specs.Choice.{firstFrom}
 use Rattle.words.specs.Examples.{Example, banana, same, all-as-stated}
-use Rattle.scan.specs.Scanned.{before, scanned, fromFront, fromBack}
-use Rattle.scan.specs.declared.Found.{Found}
-use Rattle.scan.specs.declared.Found.the-variants.{At, Nothing}
-use Rattle.scan.specs.declared.Scan.{Scan}
+use Rattle.scan.specs.Scanned.{ScanTold, before, scanned, fromFront, fromBack}
 
 -- a place is written as the list of it alone, and none as the empty list
-abbrev pub place : Found → List ℕ
-place (At k) = k ∷ []
-place Nothing = []
+abbrev pub written : Option ℕ → List ℕ
+written (some k) = k ∷ []
+written none = []
 
 -- the comparisons of a scan, and its place
-abbrev pub numbers : Scan → List ℕ
-numbers s = s .comparisons ∷ place (s .found)
+abbrev pub numbers : ScanTold → List ℕ
+numbers s = s .comparisons ∷ written (s .place)
 
 abbrev pub table : List Example
 table =

@@ -5,7 +5,7 @@ ghost use lib.ListN.{length, getD};
 ghost use Rattle.words.specs.Word.{front};
 ghost use Rattle.words.specs.Choice.{FindsLeast, FindsGreatest};
 ghost use Rattle.words.specs.Occurs.{Occurs};
-ghost use Rattle.scan.specs.Scanned.{placeOf, fromFront, fromBack};
+ghost use Rattle.scan.specs.Scanned.{placeOf, scanTold, fromFront, fromBack};
 
 // Where a scan found its byte.
 pub enum Found {
@@ -29,7 +29,7 @@ fn letter(text: &[u8], i: usize) -> u8
 
 // The first byte of `text` that is `x`.
 pub fn memchr(x: u8, text: &[u8]) -> Scan
-    ensures rule { λ r. ⌜ r ≡ fromFront x (now (text .entry)) ⌝ }
+    ensures rule { λ r. ⌜ scanTold r ≡ fromFront x (now (text .entry)) ⌝ }
     ensures meaning { λ r. ⌜ FindsLeast (Occurs (front (x ∷ [])) (front (now (text .entry)))) (placeOf (r .found)) ⌝ }
 {
     let mut at: usize = 0;
@@ -50,7 +50,7 @@ pub fn memchr(x: u8, text: &[u8]) -> Scan
 
 // The last byte of `text` that is `x`.
 pub fn memrchr(x: u8, text: &[u8]) -> Scan
-    ensures rule { λ r. ⌜ r ≡ fromBack x (now (text .entry)) ⌝ }
+    ensures rule { λ r. ⌜ scanTold r ≡ fromBack x (now (text .entry)) ⌝ }
     ensures meaning { λ r. ⌜ FindsGreatest (Occurs (front (x ∷ [])) (front (now (text .entry)))) (placeOf (r .found)) ⌝ }
 {
     let mut passed: usize = 0;

@@ -9,7 +9,7 @@ use search::Ending;
 use search::Walked;
 ghost use mathlib.Core.Path.{_≡_};
 ghost use Rattle.record.specs.Fits.{fits};
-ghost use Rattle.searcher.specs.Walk.{newRule, stepAnswer, matchAnswer, stepOf, matchOf, nextRule, nextBackRule, nextMatchRule, nextMatchBackRule};
+ghost use Rattle.searcher.specs.Walk.{stepSaid, matchSaid, preparedTold, steppedTold, matchedTold, newRule, NoWalk, stepAnswer, matchAnswer, stepOf, matchOf, nextRule, nextBackRule, nextMatchRule, nextMatchBackRule};
 
 // The state of a walk: what preparing fixed, and what the calls move. It goes into a call by value and comes back in its answer.
 pub struct TwoWaySearcher {
@@ -17,7 +17,7 @@ pub struct TwoWaySearcher {
     pub moving: Moving,
 }
 
-// What preparing answers. Where it refuses, `walk` is no state: it fits no needle.
+// What preparing answers. Where it refuses, `walk` is no state.
 pub struct Prepared {
     pub answer: Preparation,
     pub walk: TwoWaySearcher,
@@ -52,7 +52,7 @@ pub struct Matched {
 
 // What a call came to, as a step, whose Reject reaches from `low` to `high`, and as a next match.
 fn step_answer(ending: Ending, low: usize, high: usize) -> Step
-    ensures { λ r. ⌜ r ≡ stepAnswer ending low high ⌝ }
+    ensures { λ r. ⌜ stepSaid r ≡ stepAnswer ending low high ⌝ }
 {
     match ending {
         Ending::Refused(why) => Step::Refused(why),
@@ -64,7 +64,7 @@ fn step_answer(ending: Ending, low: usize, high: usize) -> Step
 }
 
 fn match_answer(ending: Ending) -> NextMatch
-    ensures { λ r. ⌜ r ≡ matchAnswer ending ⌝ }
+    ensures { λ r. ⌜ matchSaid r ≡ matchAnswer ending ⌝ }
 {
     match ending {
         Ending::Refused(why) => NextMatch::Refused(why),
@@ -77,7 +77,7 @@ fn match_answer(ending: Ending) -> NextMatch
 
 // What a call came to, as it is handed back, with the part of the state that no call changes.
 fn step_of(fixed: Fixed, called: Walked, low: usize, high: usize) -> Stepped
-    ensures { λ r. ⌜ r ≡ stepOf fixed called low high ⌝ }
+    ensures { λ r. ⌜ steppedTold r ≡ stepOf fixed called low high ⌝ }
 {
     let ending = called.ending;
     let moving = called.moving;
@@ -90,7 +90,7 @@ fn step_of(fixed: Fixed, called: Walked, low: usize, high: usize) -> Stepped
 }
 
 fn match_of(fixed: Fixed, called: Walked) -> Matched
-    ensures { λ r. ⌜ r ≡ matchOf fixed called ⌝ }
+    ensures { λ r. ⌜ matchedTold r ≡ matchOf fixed called ⌝ }
 {
     let ending = called.ending;
     let moving = called.moving;
@@ -103,9 +103,10 @@ fn match_of(fixed: Fixed, called: Walked) -> Matched
 }
 
 impl TwoWaySearcher {
-    // Prepares a walk for a needle in a haystack of `end` bytes.
+    // Prepares a walk for a needle in a haystack of `end` bytes. Where it refuses, what stands in `walk` fits nothing (`NoWalk`).
     pub fn new(needle: &[u8], end: usize) -> Prepared
-        ensures { λ r. ⌜ r ≡ newRule (now (needle .entry)) «end» ⌝ }
+        ensures rule { λ r. ⌜ preparedTold r ≡ newRule (now (needle .entry)) «end» ⌝ }
+        ensures meaning { λ r. ⌜ NoWalk (preparedTold r) ⌝ }
     {
         let parts = prepare::prepare(needle, end);
         let answer = parts.answer;
@@ -126,36 +127,39 @@ impl TwoWaySearcher {
         record::fits(haystack, needle, self.fixed, self.moving)
     }
 
-    // One step forward: the next part of the haystack that is a match, or in which none starts.
+    // One step forward: the next part of the haystack that is a match, or in which none starts (`NextMeans`).
+    // What the four calls mean is said of states reached from preparing with the same bytes, so it stands above them: `demand-2` of the
+    // crate demands proves it of each by the name that is given here, with what the matches of any mix of calls come to.
     pub fn next(self, haystack: &[u8], needle: &[u8]) -> Stepped
-        ensures { λ r. ⌜ r ≡ nextRule (now (needle .entry)) (now (haystack .entry)) self ⌝ }
+        ensures { λ r. ⌜ steppedTold r ≡ nextRule (now (needle .entry)) (now (haystack .entry)) self ⌝ }
     {
         let fixed = self.fixed;
         let called = search::forward(haystack, needle, fixed, self.moving, true);
         step_of(fixed, called, self.moving.position, called.moving.position)
     }
 
-    // One step backward.
+    // One step backward: the part before `end` that is a match, or in which none ends (`NextBackMeans`).
     pub fn next_back(self, haystack: &[u8], needle: &[u8]) -> Stepped
-        ensures { λ r. ⌜ r ≡ nextBackRule (now (needle .entry)) (now (haystack .entry)) self ⌝ }
+        ensures { λ r. ⌜ steppedTold r ≡ nextBackRule (now (needle .entry)) (now (haystack .entry)) self ⌝ }
     {
         let fixed = self.fixed;
         let called = search::backward(haystack, needle, fixed, self.moving, true);
         step_of(fixed, called, called.moving.end, self.moving.end)
     }
 
-    // The next match forward.
+    // The next match forward: the least occurrence from `position` on, or nothing exactly if there is none (`NextMatchMeans`).
     pub fn next_match(self, haystack: &[u8], needle: &[u8]) -> Matched
-        ensures { λ r. ⌜ r ≡ nextMatchRule (now (needle .entry)) (now (haystack .entry)) self ⌝ }
+        ensures { λ r. ⌜ matchedTold r ≡ nextMatchRule (now (needle .entry)) (now (haystack .entry)) self ⌝ }
     {
         let fixed = self.fixed;
         let called = search::forward(haystack, needle, fixed, self.moving, false);
         match_of(fixed, called)
     }
 
-    // The next match backward.
+    // The next match backward: the greatest occurrence that ends at `end` or before it, or nothing exactly if there is none
+    // (`NextMatchBackMeans`).
     pub fn next_match_back(self, haystack: &[u8], needle: &[u8]) -> Matched
-        ensures { λ r. ⌜ r ≡ nextMatchBackRule (now (needle .entry)) (now (haystack .entry)) self ⌝ }
+        ensures { λ r. ⌜ matchedTold r ≡ nextMatchBackRule (now (needle .entry)) (now (haystack .entry)) self ⌝ }
     {
         let fixed = self.fixed;
         let called = search::backward(haystack, needle, fixed, self.moving, false);

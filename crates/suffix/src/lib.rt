@@ -4,7 +4,7 @@ ghost use Prim.Native.Nat.{_+_, _<_, _^_};
 ghost use lib.ListN.{length, getD};
 ghost use Rattle.words.specs.Order.{below};
 ghost use Rattle.suffix.specs.Rounds.{roundOn};
-ghost use Rattle.suffix.specs.Answer.{Sound, maximalRule, MaximalMeaning, reverseRule, ReverseMeaning};
+ghost use Rattle.suffix.specs.Answer.{Sound, suffixSaid, reverseSaid, maximalRule, MaximalMeaning, reverseRule, ReverseMeaning};
 
 // The maximal suffix of a word: where it starts, its smallest period, and the rounds that it took to find it.
 pub struct Suffix {
@@ -94,8 +94,8 @@ fn round_on(s: State, a: u8, b: u8, order_greater: bool) -> State
 
 // The maximal suffix of `arr`.
 pub fn maximal_suffix(arr: &[u8], order_greater: bool) -> SuffixAnswer
-    ensures rule { λ r. ⌜ r ≡ maximalRule «order_greater» (now (arr .entry)) ⌝ }
-    ensures meaning { λ r. ⌜ MaximalMeaning «order_greater» (now (arr .entry)) r ⌝ }
+    ensures rule { λ r. ⌜ suffixSaid r ≡ maximalRule «order_greater» (now (arr .entry)) ⌝ }
+    ensures meaning { λ r. ⌜ MaximalMeaning «order_greater» (now (arr .entry)) (suffixSaid r) ⌝ }
 {
     let n = arr.len();
     if limits::needle_too_long(n) {
@@ -123,8 +123,8 @@ pub fn maximal_suffix(arr: &[u8], order_greater: bool) -> SuffixAnswer
 
 // The maximal suffix of the reverse of `arr`; it returns as soon as the period `known_period` is reached.
 pub fn reverse_maximal_suffix(arr: &[u8], known_period: usize, order_greater: bool) -> ReverseAnswer
-    ensures rule { λ r. ⌜ r ≡ reverseRule «order_greater» «known_period» (now (arr .entry)) ⌝ }
-    ensures meaning { λ r. ⌜ ReverseMeaning «order_greater» «known_period» (now (arr .entry)) r ⌝ }
+    ensures rule { λ r. ⌜ reverseSaid r ≡ reverseRule «order_greater» «known_period» (now (arr .entry)) ⌝ }
+    ensures meaning { λ r. ⌜ ReverseMeaning «order_greater» «known_period» (now (arr .entry)) (reverseSaid r) ⌝ }
 {
     let n = arr.len();
     if limits::needle_too_long(n) {

@@ -11,7 +11,7 @@ use Rattle.words.specs.Choice.{firstFrom}
 use Rattle.words.specs.Examples.{Example, same, all-as-stated, aab, gcagagag, banana, nana, acba, xacbaacbxxcba, aa, aaa}
 use Rattle.limits.specs.Bounds.{haystackBound, needleBound}
 use Rattle.limits.specs.Checks.{lengths}
-use Rattle.limits.specs.Refusals.{numberOf}
+use Rattle.limits.specs.Said.{Said, refused, given}
 use Rattle.byteset.specs.Fingerprint.{bitOf, into, fingerprint, has}
 use Rattle.compare.specs.Agree.{agreeing, agree}
 use Rattle.suffix.specs.Rounds.{roundOn, run, rounds}
@@ -22,9 +22,7 @@ use Rattle.record.specs.declared.Memory.{Memory}
 use Rattle.record.specs.declared.Memory.the-variants.{Long, Short}
 use Rattle.prepare.specs.Prepare.{chosen, forwardRounds, reverseRounds, prepareShort, prepareLong, fiveSteps, checks, prepareRule}
 use Rattle.search.specs.Calls.{refusal, forward, backward, forwardCall, backwardCall}
-use Rattle.searcher.specs.Walk.{newRule, nextRule, nextBackRule}
-use Rattle.searcher.specs.declared.Step.{Step}
-use Rattle.searcher.specs.declared.Stepped.{Stepped}
+use Rattle.searcher.specs.Walk.{StepTerm, match, reject, done, CallTold, newRule, nextRule, nextBackRule}
 use Rattle.searcher.specs.declared.TwoWaySearcher.{TwoWaySearcher}
 use Rattle.twoway.specs.Find.{searched, rfindRule, codeOf}
 
@@ -44,30 +42,30 @@ splits needle =
     s .fixed .«crit_pos» ∷ s .fixed .«crit_pos_back» ∷ s .fixed .period ∷ memory (s .moving .memory)
 
 -- a Match is 1 with its two ends, a Reject 2 with its two, Done 3, and a refusal 4 with its number
-abbrev pub step : Step → List ℕ
-step (Step.Match a b) = 1 ∷ a ∷ b ∷ []
-step (Step.Reject a b) = 2 ∷ a ∷ b ∷ []
-step Step.Done = 3 ∷ []
-step (Step.Refused why) = 4 ∷ numberOf why ∷ []
+abbrev pub step : Said StepTerm → List ℕ
+step (given (match a b)) = 1 ∷ a ∷ b ∷ []
+step (given (reject a b)) = 2 ∷ a ∷ b ∷ []
+step (given done) = 3 ∷ []
+step (refused number) = 4 ∷ number ∷ []
 
 -- so many steps in a row
-unfoldable pub walk : ℕ → (TwoWaySearcher → Stepped) → TwoWaySearcher → List Stepped
+unfoldable pub walk : ℕ → (TwoWaySearcher → CallTold StepTerm) → TwoWaySearcher → List (CallTold StepTerm)
 walk zero rule s = []
 walk (suc more) rule s = let r = rule s in r ∷ walk more rule (r .walk)
 
-abbrev pub ahead : ℕ → List ℕ → List ℕ → List Stepped
+abbrev pub ahead : ℕ → List ℕ → List ℕ → List (CallTold StepTerm)
 ahead k needle haystack = walk k (nextRule needle haystack) (newRule needle (length haystack) .walk)
 
-abbrev pub behind : ℕ → List ℕ → List ℕ → List Stepped
+abbrev pub behind : ℕ → List ℕ → List ℕ → List (CallTold StepTerm)
 behind k needle haystack = walk k (nextBackRule needle haystack) (newRule needle (length haystack) .walk)
 
 -- their answers one behind the other
-unfoldable pub answers : List Stepped → List ℕ
+unfoldable pub answers : List (CallTold StepTerm) → List ℕ
 answers [] = []
 answers (r ∷ rs) = step (r .answer) ++ answers rs
 
 -- and the comparisons and the tests that all of them made
-unfoldable pub made : List Stepped → ℕ → ℕ → List ℕ
+unfoldable pub made : List (CallTold StepTerm) → ℕ → ℕ → List ℕ
 made [] comparisons tests = comparisons ∷ tests ∷ []
 made (r ∷ rs) comparisons tests = made rs (comparisons + r .counts .comparisons) (tests + r .counts .tests)
 

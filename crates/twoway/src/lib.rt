@@ -8,8 +8,11 @@ use searcher::Matched;
 use searcher::NextMatch;
 use searcher::TwoWaySearcher;
 ghost use mathlib.Core.Path.{_≡_};
-ghost use Rattle.twoway.specs.Find.{ofScan, ofMatch, byScan, byWalk, findRule, rfindRule, codeOf};
-ghost use Rattle.twoway.specs.Meaning.{FindMeaning, RfindMeaning};
+ghost use Rattle.limits.specs.Said.{given};
+ghost use Rattle.scan.specs.Scanned.{placeOf, scanTold};
+ghost use Rattle.searcher.specs.Walk.{matchSaid, matchedTold};
+ghost use Rattle.twoway.specs.Find.{positionSaid, searchTold, told, ofMatch, byScan, byWalk, findRule, rfindRule, codeOf};
+ghost use Rattle.twoway.specs.Meaning.{FindMeaning, RfindMeaning, SearchBounded};
 
 // Where a search found the pattern, or why it did not look.
 pub enum Position {
@@ -25,7 +28,7 @@ pub struct Answer {
 }
 
 fn answered(position: Position, preparing: usize, comparisons: usize, tests: usize) -> Answer
-    ensures { λ r. ⌜ r ≡ record { position = position; counts = record { preparing = preparing; comparisons = comparisons; tests = tests } } ⌝ }
+    ensures { λ r. ⌜ searchTold r ≡ told (positionSaid position) preparing comparisons tests ⌝ }
 {
     Answer {
         position,
@@ -39,7 +42,7 @@ fn answered(position: Position, preparing: usize, comparisons: usize, tests: usi
 
 // A scan's place, and a walk's match, as a position.
 fn of_scan(found: Found) -> Position
-    ensures { λ r. ⌜ r ≡ ofScan found ⌝ }
+    ensures { λ r. ⌜ positionSaid r ≡ given (placeOf found) ⌝ }
 {
     match found {
         Found::At(k) => Position::At(k),
@@ -48,7 +51,7 @@ fn of_scan(found: Found) -> Position
 }
 
 fn of_match(found: NextMatch) -> Position
-    ensures { λ r. ⌜ r ≡ ofMatch found ⌝ }
+    ensures { λ r. ⌜ positionSaid r ≡ ofMatch (matchSaid found) ⌝ }
 {
     match found {
         NextMatch::Match(k, _) => Position::At(k),
@@ -59,14 +62,14 @@ fn of_match(found: NextMatch) -> Position
 
 // What a scan answers, and what a walk's next match does, as the answer of a whole search.
 fn by_scan(s: Scan) -> Answer
-    ensures { λ r. ⌜ r ≡ byScan s ⌝ }
+    ensures { λ r. ⌜ searchTold r ≡ byScan (scanTold s) ⌝ }
 {
     let found = s.found;
     answered(of_scan(found), 0, s.comparisons, 0)
 }
 
 fn by_walk(preparing: usize, r: Matched) -> Answer
-    ensures { λ a. ⌜ a ≡ byWalk preparing r ⌝ }
+    ensures { λ a. ⌜ searchTold a ≡ byWalk preparing (matchedTold r) ⌝ }
 {
     let found = r.answer;
     answered(
@@ -80,8 +83,9 @@ fn by_walk(preparing: usize, r: Matched) -> Answer
 // The first occurrence of `pattern` in `text`. The two searches are written out: in one function for both, the compiler runs short of
 // registers in the loops over windows, and a search takes up to a quarter longer.
 pub fn find_bytes(text: &[u8], pattern: &[u8]) -> Answer
-    ensures rule { λ r. ⌜ r ≡ findRule (now (text .entry)) (now (pattern .entry)) ⌝ }
-    ensures meaning { λ r. ⌜ FindMeaning (now (text .entry)) (now (pattern .entry)) r ⌝ }
+    ensures rule { λ r. ⌜ searchTold r ≡ findRule (now (text .entry)) (now (pattern .entry)) ⌝ }
+    ensures meaning { λ r. ⌜ FindMeaning (now (text .entry)) (now (pattern .entry)) (searchTold r) ⌝ }
+    ensures bounds { λ r. ⌜ SearchBounded (now (text .entry)) (now (pattern .entry)) (r .counts) ⌝ }
 {
     let lengths = limits::check_lengths(text.len(), pattern.len());
     if let Check::Refuse(why) = lengths {
@@ -100,11 +104,12 @@ pub fn find_bytes(text: &[u8], pattern: &[u8]) -> Answer
 
 // The last occurrence of `pattern` in `text`.
 pub fn rfind_bytes(text: &[u8], pattern: &[u8]) -> Answer
-    ensures rule { λ r. ⌜ r ≡ rfindRule (now (text .entry)) (now (pattern .entry)) ⌝ }
-    ensures meaning { λ r. ⌜ RfindMeaning (now (text .entry)) (now (pattern .entry)) r ⌝ }
+    ensures rule { λ r. ⌜ searchTold r ≡ rfindRule (now (text .entry)) (now (pattern .entry)) ⌝ }
+    ensures meaning { λ r. ⌜ RfindMeaning (now (text .entry)) (now (pattern .entry)) (searchTold r) ⌝ }
+    ensures bounds { λ r. ⌜ SearchBounded (now (text .entry)) (now (pattern .entry)) (r .counts) ⌝ }
 {
-    let lengths = limits::check_lengths(text.len(), pattern.len());
-    if let Check::Refuse(why) = lengths {
+    let checked = limits::check_lengths(text.len(), pattern.len());
+    if let Check::Refuse(why) = checked {
         return answered(Position::Refused(why), 0, 0, 0);
     }
     if pattern.len() == 0 {
@@ -120,7 +125,7 @@ pub fn rfind_bytes(text: &[u8], pattern: &[u8]) -> Answer
 
 // A position as the C functions give it: 2^64-1 for nothing, and 2^64-1-k for refusal number k.
 fn code(position: Position) -> u64
-    ensures { λ r. ⌜ r ≡ codeOf position ⌝ }
+    ensures { λ r. ⌜ r ≡ codeOf (positionSaid position) ⌝ }
 {
     match position {
         Position::At(k) => k as u64,

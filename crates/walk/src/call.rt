@@ -2,7 +2,10 @@
 use crate::front::Front;
 use crate::name;
 use crate::reply::Reply;
+use searcher::Fixed;
 use searcher::Matched;
+use searcher::Memory;
+use searcher::Moving;
 use searcher::NextMatch;
 use searcher::Step;
 use searcher::Stepped;
@@ -13,6 +16,25 @@ ghost use Prim.Native.Nat.{_≤_};
 pub(crate) struct Called {
     pub(crate) reply: Reply,
     pub(crate) walk: TwoWaySearcher,
+}
+
+// The record beside an answer that has none.
+pub(crate) fn none() -> TwoWaySearcher {
+    TwoWaySearcher {
+        fixed: Fixed {
+            needle_len: 0,
+            haystack_len: 0,
+            crit_pos: 0,
+            crit_pos_back: 0,
+            period: 0,
+            byteset: 0,
+        },
+        moving: Moving {
+            position: 0,
+            end: 0,
+            memory: Memory::Long,
+        },
+    }
 }
 
 fn step_front(step: Step) -> Front {

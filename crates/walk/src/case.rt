@@ -1,14 +1,14 @@
 // One line to one answer. Their forms stand in docs/LINES.md; the words in capitals are its own. Each answer is printed with a space
 // before it, which is not written.
+use crate::call;
 use crate::call::Called;
 use crate::name;
 use crate::reply;
-use crate::state;
 use crate::walk;
 use lines::Cursor;
 ghost use Prim.Native.Nat.{_≤_};
 ghost use lib.ListN.{length};
-ghost use Rattle.lines.specs.InRoom.{InRoom};
+ghost use Rattle.printing.specs.InRoom.{InRoom};
 
 // The most bytes that a word may have.
 const WORD_BYTES: usize = 4096;
@@ -30,7 +30,7 @@ struct Words {
 fn read_words(line: &[u8], c: Cursor, kind: u8, first: &mut [u8], second: &mut [u8]) -> Words
     ensures { λ r. ⌜ (r .needle ≤ length (now (first .exit))) × (r .haystack ≤ length (now (second .exit))) ⌝ }
 {
-    let w = lines::read_word(line, lines::skip(line, c, b' '), first);
+    let w = fields::read_word(line, lines::skip(line, c, b' '), first);
     let next = w.next;
     if name::has_one_word(kind) {
         return Words {
@@ -39,7 +39,7 @@ fn read_words(line: &[u8], c: Cursor, kind: u8, first: &mut [u8], second: &mut [
             next,
         };
     }
-    let v = lines::read_word(line, lines::skip(line, next, b' '), second);
+    let v = fields::read_word(line, lines::skip(line, next, b' '), second);
     let end = v.next;
     Words {
         needle: w.len,
@@ -60,7 +60,7 @@ fn solve(line: &[u8], c: Cursor, kind: u8, script: &[u8], needle: &[u8], haystac
         }
         _ => Called {
             reply: reply::answer(line, c, kind, needle, haystack),
-            walk: state::none(),
+            walk: call::none(),
         },
     }
 }

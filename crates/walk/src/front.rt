@@ -1,7 +1,7 @@
 // What an answer begins with.
 use limits::Refusal;
 ghost use Prim.Native.Nat.{_+_, _≤_};
-ghost use Rattle.lines.specs.InRoom.{InRoom};
+ghost use Rattle.printing.specs.InRoom.{InRoom};
 
 pub(crate) enum Front {
     Bad,
@@ -18,12 +18,7 @@ pub(crate) enum Front {
 const FORMS: [u8; 54] = *b" bad line ok none done at:# match:#:# reject:#:# ref:#";
 
 // A form: where it starts and ends among its like, and two numbers for its marks.
-pub(crate) struct Spelled(
-    pub(crate) usize,
-    pub(crate) usize,
-    pub(crate) usize,
-    pub(crate) usize,
-);
+struct Spelled(usize, usize, usize, usize);
 
 fn spell(front: Front) -> Spelled
     ensures { λ r. ⌜ (r .0 ≤ r .1) × (r .1 ≤ r .0 + 11) × (r .1 ≤ 54) ⌝ }
@@ -47,5 +42,5 @@ pub(crate) fn put_front(out: &mut [u8], at: usize, front: Front) -> usize
     let s = spell(front);
     let start = s.0;
     let end = s.1;
-    lines::put_form(out, at, &FORMS[start..end], &[s.2, s.3])
+    printing::put_form(out, at, &FORMS[start..end], &[s.2, s.3])
 }

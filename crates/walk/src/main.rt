@@ -4,7 +4,6 @@ mod case;
 mod front;
 mod name;
 mod reply;
-mod state;
 mod walk;
 
 use libc::STDIN_FILENO;

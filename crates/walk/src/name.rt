@@ -46,25 +46,25 @@ fn number_of(name: &[u8]) -> u64 {
 
 pub(crate) fn kind_of(name: &[u8]) -> u8 {
     match number_of(name) {
-        // "msuf"
+        // `msuf`
         0x1_6d73_7566 => SUFFIX,
-        // "rmsuf"
+        // `rmsuf`
         0x172_6d73_7566 => REVERSE_SUFFIX,
-        // "prep"
+        // `prep`
         0x1_7072_6570 => PREPARE,
-        // "find"
+        // `find`
         0x1_6669_6e64 => FIND,
-        // "rfind"
+        // `rfind`
         0x172_6669_6e64 => FIND_BACK,
-        // "walk"
+        // `walk`
         0x1_7761_6c6b => WALK,
-        // "step"
+        // `step`
         0x1_7374_6570 => STEP,
-        // "stepb"
+        // `stepb`
         0x173_7465_7062 => STEP_BACK,
-        // "next"
+        // `next`
         0x1_6e65_7874 => NEXT,
-        // "nextb"
+        // `nextb`
         0x16e_6578_7462 => NEXT_BACK,
         _ => UNKNOWN,
     }

@@ -2,14 +2,14 @@
 use crate::front::Front;
 use crate::front::put_front;
 use crate::name;
+use fields::Number;
 use lines::Cursor;
-use lines::Number;
 use suffix::ReverseAnswer;
 use suffix::SuffixAnswer;
 use twoway::Answer;
 use twoway::Position;
 ghost use Prim.Native.Nat.{_+_, _≤_};
-ghost use Rattle.lines.specs.InRoom.{InRoom};
+ghost use Rattle.printing.specs.InRoom.{InRoom};
 
 // Of the three counts the first `numbers` are there.
 pub(crate) struct Reply {
@@ -75,7 +75,7 @@ fn read_known(line: &[u8], c: Cursor, kind: u8) -> Number {
     if kind == name::SUFFIX {
         return Number { value: 0, next: c };
     }
-    lines::read_field(line, c, b' ')
+    fields::read_field(line, c, b' ')
 }
 
 // msuf WORD ORDER, and rmsuf WORD KNOWN ORDER
@@ -84,7 +84,7 @@ fn suffix_line(line: &[u8], c: Cursor, kind: u8, word: &[u8]) -> Reply
 {
     let known = read_known(line, c, kind);
     let next = known.next;
-    let order = lines::read_order(line, lines::skip(line, next, b' '));
+    let order = fields::read_order(line, lines::skip(line, next, b' '));
     let end = order.next;
     if !lines::is_end(line, end) {
         return alone(Front::Bad);
@@ -153,5 +153,5 @@ pub(crate) fn put_reply(out: &mut [u8], at: usize, r: Reply, form: usize) -> usi
     let row = [r.first, r.second, r.third];
     let front = r.front;
     let at = put_front(out, at, front);
-    lines::put_form(out, at, &COUNTS[form..form + 2 * numbers], &row)
+    printing::put_form(out, at, &COUNTS[form..form + 2 * numbers], &row)
 }

@@ -5,14 +5,13 @@ use crate::front::Front;
 use crate::front::put_front;
 use crate::reply;
 use crate::reply::Reply;
-use crate::state;
 use lines::Cursor;
 use searcher::Preparation;
 use searcher::Prepared;
 use searcher::TwoWaySearcher;
 ghost use Prim.Native.Nat.{_+_, _*_, _≤_};
 ghost use lib.ListN.{length};
-ghost use Rattle.lines.specs.InRoom.{InRoom};
+ghost use Rattle.printing.specs.InRoom.{InRoom};
 
 // The most letters that a script may have.
 const SCRIPT_LETTERS: usize = 256;
@@ -37,7 +36,7 @@ pub(crate) fn call_line(
 ) -> Called
     ensures { λ r. ⌜ r .reply .numbers ≤ 3 ⌝ }
 {
-    let read = state::read_state(line, lines::skip(line, c, b' '));
+    let read = states::read_state(line, lines::skip(line, c, b' '));
     if !read.whole {
         return alone(Front::Bad, read.walk);
     }
@@ -69,7 +68,7 @@ fn prepared(p: Prepared) -> Called
 pub(crate) fn prepare_line(line: &[u8], c: Cursor, needle: &[u8]) -> Called
     ensures { λ r. ⌜ r .reply .numbers ≤ 3 ⌝ }
 {
-    let n = lines::read_field(line, c, b' ');
+    let n = fields::read_field(line, c, b' ');
     let next = n.next;
     let p = TwoWaySearcher::new(needle, n.value);
     if !lines::is_end(line, next) {
@@ -83,7 +82,7 @@ pub(crate) fn walk_start(script: &[u8], needle: &[u8], haystack: &[u8]) -> Calle
     ensures { λ r. ⌜ r .reply .numbers ≤ 3 ⌝ }
 {
     if script.len() == 0 {
-        return alone(Front::Bad, state::none());
+        return alone(Front::Bad, call::none());
     }
     prepared(TwoWaySearcher::new(needle, haystack.len()))
 }
@@ -101,8 +100,8 @@ pub(crate) fn put_stated(out: &mut [u8], called: Called) -> usize
     if numbers == 0 {
         return at;
     }
-    let at = state::put_state(out, at, called.walk);
-    lines::put_form(out, at, &reply::COUNTS[0..2 * numbers], &row)
+    let at = states::put_state(out, at, called.walk);
+    printing::put_form(out, at, &reply::COUNTS[0..2 * numbers], &row)
 }
 
 // Takes a walk on by each letter of a script, and prints the answers, RESULT/COMPARISONS/TESTS, and the last state.
@@ -125,7 +124,7 @@ pub(crate) fn put_calls(
         walk = called.walk;
         i += 1;
     }
-    state::put_state(out, at, walk)
+    states::put_state(out, at, walk)
 }
 
 // Where the script starts that ends the line; the line's end, if there is none.

@@ -1,4 +1,4 @@
--- Least, greatest and none, of any property of numbers: what "find gives the least position, rfind the greatest, nothing exactly if there is none" rests on.
+-- Least, greatest and none, of any property of numbers: what it rests on that find gives the least position, rfind the greatest, and nothing exactly if there is none.
 -- Beside them the executable forms, in which a test stands for the property; proofs/Decided.antt shows that they agree.
 -- Assumes nothing.
 use Prim.Native.Nat.{ℕ, zero, suc, _+_, _<_}

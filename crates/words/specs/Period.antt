@@ -24,8 +24,8 @@ periodb x r = ltb 0 r && leb r (x .size) && every (x .size - r) (λ i. eqb (x .l
 unfoldable pub smallestPeriod : Word → ℕ
 smallestPeriod x = least (x .size + 1) (periodb x)
 
--- "The local period at a split |u| is the least positive r with x[i] = x[i+r] for each i from |u|-r to |u|-1 for which 0 < i and i+r < |x|."
--- The split is c. (Index 0 is left out, as that sentence does: the local period of "ab" at 1 is then 1.) Nothing about searching rests on this.
+-- "The local period at a split |u| is the least positive r with x[i] = x[i+r] for each i from |u|-r to |u|-1 for which 0 < i and i+r < |x|"
+-- (the split is c). Index 0 is left out, as that sentence does: the local period of "ab" at 1 is then 1. Nothing about searching rests on this.
 pub record LocalRepeat (x : Word) (c r : ℕ) : Type 0 where
   pub positive : 0 < r
   pub repeats : (i j : ℕ) → c ≤ i + r → i < c → 0 < i → j ≡ i + r → j < x .size → x .letter i ≡ x .letter j

@@ -9,8 +9,8 @@ use Rattle.twoway.proofs.rfind_bytes.Tie as tie
 check-lengths-requires : tie.Need-check-lengths-requires
 check-lengths-requires c κs = search needs
 
-enum-known-lengths : tie.Need-enum-known-lengths
-enum-known-lengths c = search needs
+enum-known-checked : tie.Need-enum-known-checked
+enum-known-checked c = search needs
 
 answered-requires : tie.Need-answered-requires
 answered-requires c κs = search needs
@@ -56,7 +56,7 @@ rfind-bytes-spec =
     tie.close
     (tie.spec
     check-lengths-requires
-    enum-known-lengths
+    enum-known-checked
     answered-requires
     returns
     enum-told

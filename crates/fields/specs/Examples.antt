@@ -1,0 +1,33 @@
+-- What the readers make of a line, computed from their definitions: one table under one claim.
+-- 48 is `0`, 102 `f`. Assumes nothing.
+use Prim.Native.Nat.{ℕ}
+use mathlib.Core.List.{List, [], _∷_}
+use lib.Dec.{T}
+use Rattle.words.specs.Examples.{Example, same, all-as-stated}
+use Rattle.lines.specs.Examples.{line, answer, place}
+use Rattle.lines.specs.Reading.{skipped}
+use Rattle.lines.specs.declared.Cursor.the-variants.{At}
+use Rattle.fields.specs.Fields.{orderAt, digitOf, takes, numberFrom, numberAt, setFrom, setAt, hasByte, byteAt, bytesFrom, wordBytes, wordAt}
+
+-- `00000000000000ff`
+abbrev pub digits : List ℕ
+digits = 48 ∷ 48 ∷ 48 ∷ 48 ∷ 48 ∷ 48 ∷ 48 ∷ 48 ∷ 48 ∷ 48 ∷ 48 ∷ 48 ∷ 48 ∷ 48 ∷ 102 ∷ 102 ∷ []
+
+-- the line is `-:1 27 0f`
+abbrev pub table : List Example
+table =
+    -- the order at 2 is a 1; the number at 4 is 27, and there is none at 3; the set of the 16 digits is 255
+    record { computed = answer (orderAt line (At 2) .greater) ∷ place (orderAt line (At 2) .next); stated = 1 ∷ 3 ∷ [] }
+    ∷ record { computed = numberAt line (At 4) .value ∷ place (numberAt line (At 4) .next); stated = 27 ∷ 6 ∷ [] }
+    ∷ record { computed = place (numberAt line (At 3) .next); stated = [] }
+    ∷ record { computed = setAt digits (At 0) .value ∷ place (setAt digits (At 0) .next); stated = 255 ∷ 16 ∷ [] }
+    -- the word at 7 is the byte 15, the one at 0 is empty, and there is none at 1
+    ∷ record { computed = wordAt 4 line (At 7) .len ∷ place (wordAt 4 line (At 7) .next); stated = 1 ∷ 9 ∷ [] }
+    ∷ record { computed = wordBytes 4 line (At 7); stated = 15 ∷ [] }
+    ∷ record { computed = wordAt 4 line (At 0) .len ∷ place (wordAt 4 line (At 0) .next); stated = 0 ∷ 1 ∷ [] }
+    ∷ record { computed = place (wordAt 4 line (At 1) .next); stated = [] }
+    ∷ []
+
+pub examples : T (all-as-stated table)
+unfolding all-as-stated same skipped orderAt digitOf takes numberFrom numberAt setFrom setAt hasByte byteAt bytesFrom wordBytes wordAt
+examples = tt

@@ -1,0 +1,59 @@
+-- `states::put_state` meets its contract.
+-- Assumes nothing.
+use borrow.Author.Needs.{needs}
+use Rattle.states.proofs.Laws.{prints-long, prints-short}
+use Rattle.states.proofs.put_state.Statement.{statement}
+use Rattle.states.proofs.put_state.Tie as tie
+
+enum-told : tie.Need-enum-told
+enum-told c = search needs
+
+slice-aggregate-put-form : tie.Need-slice-aggregate-put-form
+slice-aggregate-put-form c = search needs
+
+slice-aggregate-put-form-2 : tie.Need-slice-aggregate-put-form-2
+slice-aggregate-put-form-2 c = search needs
+
+put-form-requires : tie.Need-put-form-requires
+put-form-requires c κs = search needs
+
+enum-known-memory : tie.Need-enum-known-memory
+enum-known-memory c = search needs
+
+slice-aggregate-put-form-3 : tie.Need-slice-aggregate-put-form-3
+slice-aggregate-put-form-3 c = search needs
+
+slice-aggregate-put-form-4 : tie.Need-slice-aggregate-put-form-4
+slice-aggregate-put-form-4 c = search needs
+
+put-form-requires-2 : tie.Need-put-form-requires-2
+put-form-requires-2 c κs = search needs
+
+same-length : tie.Need-same-length
+same-length c = search needs
+
+returns : tie.Need-returns
+returns c = (search needs, search (needs, prints-long))
+
+same-length-2 : tie.Need-same-length-2
+same-length-2 c = search needs
+
+returns-2 : tie.Need-returns-2
+returns-2 c = (search needs, search (needs, prints-short))
+
+pub put-state-spec : {M : Type 1} → statement M
+put-state-spec =
+    tie.close
+    (tie.spec
+    enum-told
+    slice-aggregate-put-form
+    slice-aggregate-put-form-2
+    put-form-requires
+    enum-known-memory
+    slice-aggregate-put-form-3
+    slice-aggregate-put-form-4
+    put-form-requires-2
+    same-length
+    returns
+    same-length-2
+    returns-2)
