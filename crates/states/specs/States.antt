@@ -93,15 +93,15 @@ stateAt s c =
 abbrev pub formOf : ℕ → List ℕ
 formOf kind = 32 ∷ kind ∷ 58 ∷ 35 ∷ 58 ∷ 35 ∷ 58 ∷ 35 ∷ 58 ∷ 35 ∷ 58 ∷ 35 ∷ 58 ∷ 35 ∷ 58 ∷ 35 ∷ 58 ∷ 37 ∷ []
 
--- the numbers of both kinds
-abbrev pub numbersOf : TwoWaySearcher → List ℕ
-numbersOf w =
-    w .fixed .«needle_len» ∷ w .fixed .«haystack_len» ∷ w .moving .position ∷ w .moving .end ∷ w .fixed .«crit_pos» ∷ w .fixed .«crit_pos_back» ∷ w .fixed .period ∷ w .fixed .byteset ∷ []
+-- the numbers of a state, its memories last
+abbrev pub numbersOf : TwoWaySearcher → ℕ → ℕ → List ℕ
+numbersOf w forward backward =
+    w .fixed .«needle_len» ∷ w .fixed .«haystack_len» ∷ w .moving .position ∷ w .moving .end ∷ w .fixed .«crit_pos» ∷ w .fixed .«crit_pos_back» ∷ w .fixed .period ∷ w .fixed .byteset ∷ forward ∷ backward ∷ []
 
--- the text of a state, with a space before it
+-- the text of a state, with a space before it; a long one's form has no marks for memories
 abbrev pub textOf : TwoWaySearcher → Memory → List ℕ
-textOf w Long = formText (formOf 76) (numbersOf w)
-textOf w (Short forward backward) = formText (formOf 83 ++ 58 ∷ 35 ∷ 58 ∷ 35 ∷ []) (numbersOf w ++ forward ∷ backward ∷ [])
+textOf w Long = formText (formOf 76) (numbersOf w 0 0)
+textOf w (Short forward backward) = formText (formOf 83 ++ 58 ∷ 35 ∷ 58 ∷ 35 ∷ []) (numbersOf w forward backward)
 
 abbrev pub stateText : TwoWaySearcher → List ℕ
 stateText w = textOf w (w .moving .memory)

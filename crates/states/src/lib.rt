@@ -8,8 +8,9 @@ use searcher::TwoWaySearcher;
 ghost use mathlib.Core.Path.{_≡_};
 ghost use Prim.Native.Nat.{_+_};
 ghost use Rattle.printing.specs.InRoom.{InRoom};
-ghost use Rattle.printing.specs.Printing.{Prints};
-ghost use Rattle.states.specs.States.{fieldAt, twoAt, kindAt, rowAt, memoryAt, walkOf, stateAt, stateText};
+ghost use lib.ListN.{length};
+ghost use Rattle.printing.specs.Printing.{Prints, formText};
+ghost use Rattle.states.specs.States.{fieldAt, twoAt, kindAt, rowAt, memoryAt, walkOf, stateAt, numbersOf, stateText};
 
 // A state that was read, and whether the line ends behind it. Where it does not, what was read is no state.
 pub struct Read {
@@ -164,46 +165,46 @@ pub fn read_state(line: &[u8], c: Cursor) -> Read
     }
 }
 
+// Prints a form of a state, with its numbers; a form without memories leaves the last two out.
+fn put_numbers(
+    out: &mut [u8],
+    at: usize,
+    form: &[u8],
+    w: TwoWaySearcher,
+    forward: usize,
+    backward: usize,
+) -> usize
+    ensures { λ r. ⌜ InRoom (now (out .exit)) (at + length (now (form .entry)) + 190) r ⌝ }
+    ensures rule { λ r. ⌜ Prints (now (out .entry)) at (formText (now (form .entry)) (numbersOf w forward backward)) (now (out .exit)) r ⌝ }
+{
+    let fixed = w.fixed;
+    let moving = w.moving;
+    let row = [
+        fixed.needle_len,
+        fixed.haystack_len,
+        moving.position,
+        moving.end,
+        fixed.crit_pos,
+        fixed.crit_pos_back,
+        fixed.period,
+        fixed.byteset as usize,
+        forward,
+        backward,
+    ];
+    printing::put_form(out, at, form, &row)
+}
+
 // Prints a state behind a space.
 pub fn put_state(out: &mut [u8], at: usize, w: TwoWaySearcher) -> usize
     ensures { λ r. ⌜ InRoom (now (out .exit)) (at + 212) r ⌝ }
     ensures rule { λ r. ⌜ Prints (now (out .entry)) at (stateText w) (now (out .exit)) r ⌝ }
 {
-    let fixed = w.fixed;
     let moving = w.moving;
     let memory = moving.memory;
     match memory {
-        Memory::Long => printing::put_form(
-            out,
-            at,
-            b" L:#:#:#:#:#:#:#:%",
-            &[
-                fixed.needle_len,
-                fixed.haystack_len,
-                moving.position,
-                moving.end,
-                fixed.crit_pos,
-                fixed.crit_pos_back,
-                fixed.period,
-                fixed.byteset as usize,
-            ],
-        ),
-        Memory::Short { forward, backward } => printing::put_form(
-            out,
-            at,
-            b" S:#:#:#:#:#:#:#:%:#:#",
-            &[
-                fixed.needle_len,
-                fixed.haystack_len,
-                moving.position,
-                moving.end,
-                fixed.crit_pos,
-                fixed.crit_pos_back,
-                fixed.period,
-                fixed.byteset as usize,
-                forward,
-                backward,
-            ],
-        ),
+        Memory::Long => put_numbers(out, at, b" L:#:#:#:#:#:#:#:%", w, 0, 0),
+        Memory::Short { forward, backward } => {
+            put_numbers(out, at, b" S:#:#:#:#:#:#:#:%:#:#", w, forward, backward)
+        }
     }
 }

@@ -3,10 +3,8 @@
 use Prim.Native.Nat.{ℕ, zero, suc, _+_}
 use mathlib.Core.Bool.{Bool, true, false}
 use mathlib.Core.List.{List, [], _∷_, _++_}
-use mathlib.Core.Option.{none}
 use lib.Dec.{T}
 use lib.ListN.{length}
-use Rattle.words.specs.Word.{front}
 use Rattle.words.specs.Choice.{firstFrom}
 use Rattle.words.specs.Examples.{Example, same, all-as-stated, aab, gcagagag, banana, nana, acba, xacbaacbxxcba, aa, aaa}
 use Rattle.limits.specs.Bounds.{haystackBound, needleBound}
@@ -15,6 +13,8 @@ use Rattle.limits.specs.Said.{Said, refused, given}
 use Rattle.byteset.specs.Fingerprint.{bitOf, into, fingerprint, has}
 use Rattle.compare.specs.Agree.{agreeing, agree}
 use Rattle.suffix.specs.Rounds.{roundOn, run, rounds}
+use Rattle.suffix.specs.Answer.{maximalRule}
+use Rattle.suffix.specs.declared.Suffix.{Suffix}
 use Rattle.windows.specs.Window.{forwardWindow, backwardWindow}
 use Rattle.windows.specs.Search.{forwardSearch, backwardSearch}
 use Rattle.record.specs.Fits.{fitsShort, fitsLong, fits, fitting}
@@ -26,9 +26,13 @@ use Rattle.searcher.specs.Walk.{StepTerm, match, reject, done, CallTold, newRul
 use Rattle.searcher.specs.declared.TwoWaySearcher.{TwoWaySearcher}
 use Rattle.twoway.specs.Find.{searched, rfindRule, codeOf}
 
--- the maximal suffix's start and period
+-- the maximal suffix's start and period, or a refusal's number alone
+abbrev pub suffixNumbers : Said Suffix → List ℕ
+suffixNumbers (given r) = r .start ∷ r .period ∷ []
+suffixNumbers (refused number) = number ∷ []
+
 abbrev pub pair : Bool → List ℕ → List ℕ
-pair g w = let r = rounds g (front w) none in r .start ∷ r .period ∷ []
+pair g w = suffixNumbers (maximalRule g w)
 
 -- Short is written as its two numbers, and Long as the empty list
 abbrev pub memory : Memory → List ℕ
@@ -102,5 +106,5 @@ table =
     ∷ []
 
 pub examples : T (all-as-stated table)
-unfolding all-as-stated same firstFrom haystackBound needleBound lengths bitOf into fingerprint has agreeing agree roundOn run rounds forwardWindow backwardWindow forwardSearch backwardSearch fitsShort fitsLong fits fitting chosen forwardRounds reverseRounds prepareShort prepareLong fiveSteps checks prepareRule refusal forward backward forwardCall backwardCall searched walk answers made
+unfolding all-as-stated same firstFrom haystackBound needleBound lengths bitOf into fingerprint has agreeing agree roundOn run rounds maximalRule forwardWindow backwardWindow forwardSearch backwardSearch fitsShort fitsLong fits fitting chosen forwardRounds reverseRounds prepareShort prepareLong fiveSteps checks prepareRule refusal forward backward forwardCall backwardCall searched walk answers made
 examples = tt

@@ -2,10 +2,7 @@
 use crate::front::Front;
 use crate::name;
 use crate::reply::Reply;
-use searcher::Fixed;
 use searcher::Matched;
-use searcher::Memory;
-use searcher::Moving;
 use searcher::NextMatch;
 use searcher::Step;
 use searcher::Stepped;
@@ -18,23 +15,10 @@ pub(crate) struct Called {
     pub(crate) walk: TwoWaySearcher,
 }
 
-// The record beside an answer that has none.
+// The record beside an answer that has none: what a refused preparation hands out.
 pub(crate) fn none() -> TwoWaySearcher {
-    TwoWaySearcher {
-        fixed: Fixed {
-            needle_len: 0,
-            haystack_len: 0,
-            crit_pos: 0,
-            crit_pos_back: 0,
-            period: 0,
-            byteset: 0,
-        },
-        moving: Moving {
-            position: 0,
-            end: 0,
-            memory: Memory::Long,
-        },
-    }
+    let refused = TwoWaySearcher::new(&[], 0);
+    refused.walk
 }
 
 fn step_front(step: Step) -> Front {

@@ -8,26 +8,20 @@ use Rattle.states.proofs.put_state.Tie as tie
 enum-told : tie.Need-enum-told
 enum-told c = search needs
 
-slice-aggregate-put-form : tie.Need-slice-aggregate-put-form
-slice-aggregate-put-form c = search needs
+slice-aggregate-put-numbers : tie.Need-slice-aggregate-put-numbers
+slice-aggregate-put-numbers c = search needs
 
-slice-aggregate-put-form-2 : tie.Need-slice-aggregate-put-form-2
-slice-aggregate-put-form-2 c = search needs
-
-put-form-requires : tie.Need-put-form-requires
-put-form-requires c κs = search needs
+put-numbers-requires : tie.Need-put-numbers-requires
+put-numbers-requires c κs = search needs
 
 enum-known-memory : tie.Need-enum-known-memory
 enum-known-memory c = search needs
 
-slice-aggregate-put-form-3 : tie.Need-slice-aggregate-put-form-3
-slice-aggregate-put-form-3 c = search needs
+slice-aggregate-put-numbers-2 : tie.Need-slice-aggregate-put-numbers-2
+slice-aggregate-put-numbers-2 c = search needs
 
-slice-aggregate-put-form-4 : tie.Need-slice-aggregate-put-form-4
-slice-aggregate-put-form-4 c = search needs
-
-put-form-requires-2 : tie.Need-put-form-requires-2
-put-form-requires-2 c κs = search needs
+put-numbers-requires-2 : tie.Need-put-numbers-requires-2
+put-numbers-requires-2 c κs = search needs
 
 same-length : tie.Need-same-length
 same-length c = search needs
@@ -46,13 +40,11 @@ put-state-spec =
     tie.close
     (tie.spec
     enum-told
-    slice-aggregate-put-form
-    slice-aggregate-put-form-2
-    put-form-requires
+    slice-aggregate-put-numbers
+    put-numbers-requires
     enum-known-memory
-    slice-aggregate-put-form-3
-    slice-aggregate-put-form-4
-    put-form-requires-2
+    slice-aggregate-put-numbers-2
+    put-numbers-requires-2
     same-length
     returns
     same-length-2
