@@ -1,4 +1,4 @@
-//! Finds and compiles what is not the harness's own: the original in two copies, the C library,
+//! Finds and compiles what is not the harness's own: the original in three copies, the C library,
 //! and the crate memchr. What is not there is left out, and the programs say so.
 
 use std::env;
@@ -12,6 +12,13 @@ type Done = Result<(), Box<dyn Error>>;
 /// The places of the original that counted.sed changes: 4 rounds (2 of them in tests that are not
 /// compiled), step 2, 2 fingerprint tests, 4 comparisons, 2 scans.
 const COUNTED_PLACES: usize = 13;
+
+/// What only a nightly compiler takes of the original, and what stands there for the copy that has
+/// its feature `pattern`.
+const NIGHTLY: [(&str, &str); 2] = [
+    ("#![cfg_attr(feature = \"pattern\", feature(pattern))]", ""),
+    ("use std::str::pattern::{", "use pattern::{"),
+];
 
 /// Tells libFuzzer which branches run and what they compare.
 const COVERAGE: [&str; 12] = [
@@ -46,9 +53,10 @@ const FAST: [&str; 10] = [
 fn main() -> Done {
     println!("cargo::rustc-check-cfg=cfg(original, memchr_crate)");
     println!("cargo::rustc-link-search={}", out("").display());
-    for name in ["build.rs", "src/probe.rs", "src/memchr.rs", "src/tally.rs", "src/counted.sed"] {
-        println!("cargo::rerun-if-changed={name}");
+    for name in ["probe.rs", "pattern.rs", "memchr.rs", "tally.rs", "counted.sed"] {
+        println!("cargo::rerun-if-changed=src/{name}");
     }
+    println!("cargo::rerun-if-changed=build.rs");
     if let Some(folder) = found("TWOWAY_SRC", "../../shared/docs/src", "original") {
         original(&folder)?;
     } else {
@@ -94,8 +102,8 @@ fn found(variable: &str, usual: &str, cfg: &str) -> Option<PathBuf> {
     None
 }
 
-/// The two copies of the original: its unchanged text with the probe behind it, and the same with
-/// counters in it.
+/// The copies of the original: its unchanged text with the probe behind it, the same with counters
+/// in it, and one with its feature `pattern`.
 fn original(folder: &Path) -> Done {
     compile("memchr", "2021", &harness("src/memchr.rs"), &[])?;
     compile("tally", "2021", &harness("src/tally.rs"), &[])?;
@@ -111,7 +119,19 @@ fn original(folder: &Path) -> Done {
         return Err(format!("{changed}, not {COUNTED_PLACES}").into());
     }
     let tally = format!("tally={}", out("libtally.rlib").display());
-    copy("twoway_counted", folder, &counted, &["--extern", &tally])
+    copy("twoway_counted", folder, &counted, &["--extern", &tally])?;
+    with_pattern(folder, text)
+}
+
+fn with_pattern(folder: &Path, mut text: String) -> Done {
+    for (nightly, stands_in) in NIGHTLY {
+        if text.matches(nightly).count() != 1 {
+            return Err(format!("the original does not have once: {nightly}").into());
+        }
+        text = text.replace(nightly, stands_in);
+    }
+    text += &fs::read_to_string(harness("src/pattern.rs"))?;
+    copy("twoway_pattern", folder, &text, &["--cfg", "feature=\"pattern\""])
 }
 
 /// Release behaviour is what counts: no overflow checks, no debug_assert.

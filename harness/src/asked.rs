@@ -1,18 +1,20 @@
-// The original Rust behind the same questions as the model.
+// The original Rust behind the same questions as the model, but for the walks of an empty needle,
+// which retold.rs answers.
 //
 // original.rs includes this text twice: over the unchanged crate and over the copy that counts.
 // The module around it brings `probe`, `TwoWaySearcher`, `find_bytes`, `rfind_bytes` and
 // `counts`, the counts since it was last called.
 
 fn fields(state: &State) -> probe::Fields {
+    let Kind::TwoWay(two_way) = state.kind else { panic!("not a TwoWaySearcher: {state:?}") };
     probe::Fields {
-        crit_pos: state.c,
-        crit_pos_back: state.b,
-        period: state.p,
-        byteset: state.set,
+        crit_pos: two_way.c,
+        crit_pos_back: two_way.b,
+        period: two_way.p,
+        byteset: two_way.set,
         position: state.position,
         end: state.end,
-        memory: match state.memory {
+        memory: match two_way.memory {
             Memory::Long => None,
             Memory::Short { forward, backward } => Some((forward, backward)),
         },
@@ -20,11 +22,7 @@ fn fields(state: &State) -> probe::Fields {
 }
 
 fn state(m: usize, n: usize, fields: &probe::Fields) -> State {
-    State {
-        m,
-        n,
-        position: fields.position,
-        end: fields.end,
+    let kind = Kind::TwoWay(TwoWay {
         c: fields.crit_pos,
         b: fields.crit_pos_back,
         p: fields.period,
@@ -33,7 +31,8 @@ fn state(m: usize, n: usize, fields: &probe::Fields) -> State {
             None => Memory::Long,
             Some((forward, backward)) => Memory::Short { forward, backward },
         },
-    }
+    });
+    State { m, n, position: fields.position, end: fields.end, kind }
 }
 
 fn stepped(step: probe::Step) -> Answer {

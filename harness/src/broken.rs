@@ -4,7 +4,7 @@ use crate::compare::Run;
 use crate::failure::Failure;
 use crate::model::{Fault, Model};
 
-const FAULTS: [(Fault, &str); 14] = [
+const FAULTS: [(Fault, &str); 19] = [
     (Fault::DifferenceNotCounted, "the differing comparison is not counted"),
     (Fault::MemoryKeptAfterSkip, "forward memory is kept after a fingerprint skip"),
     (Fault::MemoryKeptAfterRightDifference, "forward memory is kept after a right difference"),
@@ -22,6 +22,11 @@ const FAULTS: [(Fault, &str); 14] = [
     (Fault::KnownPeriodBeforeRound, "the known period is tested before the round"),
     (Fault::BackwardMemoryIndexIncluded, "backward compares up to memory included"),
     (Fault::RefusalsInOtherOrder, "the refusals are checked from 4 to 1"),
+    (Fault::DoneFlipsFlag, "an empty needle's flag flips again after Done"),
+    (Fault::OneFlag, "both directions of an empty needle share one flag"),
+    (Fault::RejectPastEnd, "an empty needle's walk ends with Reject(n, n+1)"),
+    (Fault::EmptyFitsOneByte, "an empty needle's state fits a needle of one byte"),
+    (Fault::EmptyRefused, "a call with an empty needle is refused by 3"),
 ];
 
 fn small(fault: Fault) -> Result<u64, Failure> {

@@ -1,4 +1,4 @@
-//! What is asked and what is answered, in the words of document 01.
+//! What is asked and what is answered, in the words of the documents 01 and 02.
 
 pub type Word = Vec<u8>;
 
@@ -8,6 +8,24 @@ pub enum Memory {
     Short { forward: usize, backward: usize },
 }
 
+/// What the walk of a needle that has bytes holds beside its lengths and cursors.
+#[derive(Clone, Copy, Debug, PartialEq, Eq)]
+pub struct TwoWay {
+    pub c: usize,
+    pub b: usize,
+    pub p: usize,
+    pub set: u64,
+    pub memory: Memory,
+}
+
+/// The two kinds of a walk. An empty needle's has two flags: whether the next thing that this
+/// direction gives is a Match.
+#[derive(Clone, Copy, Debug, PartialEq, Eq)]
+pub enum Kind {
+    TwoWay(TwoWay),
+    Empty { forward: bool, backward: bool },
+}
+
 /// The record of a walk.
 #[derive(Clone, Copy, Debug, PartialEq, Eq)]
 pub struct State {
@@ -15,11 +33,7 @@ pub struct State {
     pub n: usize,
     pub position: usize,
     pub end: usize,
-    pub c: usize,
-    pub b: usize,
-    pub p: usize,
-    pub set: u64,
-    pub memory: Memory,
+    pub kind: Kind,
 }
 
 #[derive(Clone, Copy, Debug, PartialEq, Eq)]
@@ -29,6 +43,17 @@ pub enum Answer {
     Done,
     None,
     Refused(u8),
+}
+
+impl Answer {
+    /// The same about the haystack of n bytes read from its end.
+    pub fn mirrored(self, n: usize) -> Answer {
+        match self {
+            Answer::Match(a, b) => Answer::Match(n - b, n - a),
+            Answer::Reject(a, b) => Answer::Reject(n - b, n - a),
+            other => other,
+        }
+    }
 }
 
 #[derive(Clone, Copy, Debug, Default, PartialEq, Eq)]
@@ -52,6 +77,10 @@ impl Call {
 
     pub fn is_backward(self) -> bool {
         matches!(self, Call::StepBack | Call::NextBack)
+    }
+
+    pub fn is_step(self) -> bool {
+        matches!(self, Call::Step | Call::StepBack)
     }
 }
 

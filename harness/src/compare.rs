@@ -2,12 +2,16 @@
 
 use crate::case::*;
 use crate::examples;
+use crate::exhaustive;
 use crate::failure::{Failure, Outcome};
 use crate::judge::judge;
-use crate::limits::NEEDLE_BOUND;
+use crate::limits::{NEEDLE_BOUND, SCRIPT_LETTERS, STATE_DOES_NOT_FIT};
+use crate::line;
 use crate::meaning;
 use crate::model::{Model, RULES};
 use crate::naive;
+use crate::original;
+use crate::retold::EmptyNeedle;
 use crate::scripts;
 use crate::states;
 use crate::words::{self, Dice, Letters};
@@ -86,6 +90,9 @@ impl Run<'_> {
         self.pairs((b"ab", 4), (b"abc", 7))?;
         self.pairs(words::ALIKE.0, words::ALIKE.1)?;
         self.handed_in(size.state_needle)?;
+        self.told_again()?;
+        self.empty_needle()?;
+        self.empty_seeded(dice, size.large)?;
         words::sizes(size.seeded, size.large).try_for_each(|(m, n)| self.seeded(dice, m, n))
     }
 
@@ -94,6 +101,7 @@ impl Run<'_> {
         self.suffixes(b"ab", 6)?;
         self.pairs((b"ab", 3), (b"abc", 5))?;
         self.pairs((b"ab", 5), (b"ab", 7))?;
+        self.empty_needle()?;
         self.examples()?;
         self.bounds()
     }
@@ -198,11 +206,72 @@ impl Run<'_> {
         Ok(())
     }
 
-    fn calls(&mut self, needle: &[u8], haystack: &[u8], state: State) -> Outcome {
+    /// Every small walk of an empty needle, and calls with states that are known to fit or not to.
+    fn empty_needle(&mut self) -> Outcome {
+        exhaustive::empty_walks().try_for_each(|case| self.check(case))?;
+        exhaustive::empty_calls().try_for_each(|(case, fits)| self.fitted(case, fits))
+    }
+
+    /// `EmptyNeedle` told again against the original's own, if that is at hand: without anything put
+    /// back behind Done.
+    fn told_again(&mut self) -> Outcome {
+        for case in exhaustive::empty_walks() {
+            let Case::Walk { haystack, script, .. } = &case else { continue };
+            let Some(own) = original::empty_walk(haystack, script) else { continue };
+            let mut searcher = EmptyNeedle::new(haystack.len());
+            let told = script.iter().map(|&call| searcher.called(call, haystack));
+            if !own.iter().copied().eq(told) {
+                return Err(Failure::new(case, format!("not as it is told again: {own:?}")));
+            }
+            self.cases += 1;
+        }
+        Ok(())
+    }
+
+    /// `fits` is known from how the state was made, not by 01's conditions.
+    fn fitted(&mut self, case: Case, fits: bool) -> Outcome {
+        let reply = self.model.reply(&case);
+        let refused = match (&case, &reply) {
+            (Case::Call { state: before, .. }, Reply::Called(Called { answer, state, counts })) => {
+                *answer == Answer::Refused(STATE_DOES_NOT_FIT)
+                    && state == before
+                    && *counts == Counts::default()
+            }
+            _ => false,
+        };
+        if refused == fits {
+            let why = format!("model: {} | fits: {fits}", line::show_reply(&reply));
+            return Err(Failure::new(case, why));
+        }
+        self.check(case)
+    }
+
+    /// All that can be asked of an empty needle in haystacks about some limits, with so many
+    /// seeded scripts and states for each.
+    fn empty_seeded(&mut self, dice: &mut Dice, number: usize) -> Outcome {
+        for n in words::EDGES {
+            let haystack = words::random(dice, words::ALPHABETS[2], n);
+            self.pair(b"", &haystack)?;
+            self.check(Case::Prepare { needle: Word::new(), n })?;
+            for _ in 0..number {
+                let (needle, script) = (Word::new(), scripts::any(dice, 1, SCRIPT_LETTERS));
+                self.check(Case::Walk { needle, haystack: haystack.clone(), script })?;
+                self.each_call(b"", &haystack, states::any_fitting(dice, 0, n, 0))?;
+            }
+        }
+        Ok(())
+    }
+
+    fn each_call(&mut self, needle: &[u8], haystack: &[u8], state: State) -> Outcome {
         for call in Call::ALL {
             let (needle, haystack) = (needle.to_vec(), haystack.to_vec());
             self.check(Case::Call { call, needle, haystack, state })?;
         }
+        Ok(())
+    }
+
+    fn calls(&mut self, needle: &[u8], haystack: &[u8], state: State) -> Outcome {
+        self.each_call(needle, haystack, state)?;
         self.walk_bounds(Call::Step, needle, haystack, state)?;
         self.walk_bounds(Call::StepBack, needle, haystack, state)
     }
@@ -235,10 +304,10 @@ impl Run<'_> {
         let known = dice.pick(&[naive::smallest_period(&needle), any]);
         self.splits(&needle, known, n)?;
         self.pair(&needle, &haystack)?;
-        let script = (0..dice.between(1, 40)).map(|_| dice.pick(&Call::ALL)).collect();
+        let script = scripts::any(dice, 1, 40);
         self.check(Case::Walk { needle: needle.clone(), haystack: haystack.clone(), script })?;
         let any = dice.roll();
-        let set = dice.pick(&[RULES.prepare(&needle, n).0.set, u64::MAX, any]);
+        let set = dice.pick(&[RULES.split(&needle).0.set, u64::MAX, any]);
         let state = states::any_fitting(dice, m, n, set);
         self.calls(&needle, &haystack, state)
     }

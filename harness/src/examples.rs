@@ -55,18 +55,50 @@ const TABLE: &[(&str, &str)] = &[
     ("rfind 6162 6161", "none * 2 1"),
     // 01 and 41 hex share bit 1, so the test says yes and the comparison says no
     ("find 0101 4141", "none * 1 1"),
+    // 02's request [1]: an empty needle in "ab" from both ends, and in the empty word
+    ("prep - 5", "ok E:0:5:0:5:1:1 0"),
+    ("walk - 6162 f", "ok 0 match:0:0/0/0 E:0:2:0:2:0:1"),
+    (
+        "walk - 6162 fffffff",
+        "ok 0 match:0:0/0/0 reject:0:1/0/0 match:1:1/0/0 reject:1:2/0/0 match:2:2/0/0 done/0/0 \
+         done/0/0 E:0:2:2:2:0:1",
+    ),
+    (
+        "walk - 6162 bbbbbbb",
+        "ok 0 match:2:2/0/0 reject:1:2/0/0 match:1:1/0/0 reject:0:1/0/0 match:0:0/0/0 done/0/0 \
+         done/0/0 E:0:2:0:0:1:0",
+    ),
+    (
+        "walk - 6162 FFFFF",
+        "ok 0 match:0:0/0/0 match:1:1/0/0 match:2:2/0/0 none/0/0 none/0/0 E:0:2:2:2:0:1",
+    ),
+    (
+        "walk - 6162 BBBBB",
+        "ok 0 match:2:2/0/0 match:1:1/0/0 match:0:0/0/0 none/0/0 none/0/0 E:0:2:0:0:1:0",
+    ),
+    ("walk - - ffff", "ok 0 match:0:0/0/0 done/0/0 done/0/0 done/0/0 E:0:0:0:0:0:1"),
+    ("walk - - bbbb", "ok 0 match:0:0/0/0 done/0/0 done/0/0 done/0/0 E:0:0:0:0:1:0"),
+    // its state fits an empty needle only, with cursors of at most n
+    ("step 61 6162 E:0:2:0:2:1:1", "ref:4 E:0:2:0:2:1:1 0 0"),
+    ("step 61 6162 E:1:2:0:2:1:1", "ref:4 E:1:2:0:2:1:1 0 0"),
+    ("step - 6162 E:0:2:3:2:1:1", "ref:4 E:0:2:3:2:1:1 0 0"),
+    ("stepb - 6162 E:0:2:2:0:0:0", "done E:0:2:2:0:0:0 0 0"),
     // refusals and their order
-    ("prep - 5", "ref:3"),
-    ("walk - 6162 f", "ref:3"),
+    ("prep - 67108864", "ok E:0:67108864:0:67108864:1:1 0"),
     ("prep 61 67108864", "ok S:1:67108864:0:67108864:0:1:1:0000000200000000:0:1 0"),
     ("prep 61 67108865", "ref:1"),
     ("prep - 67108865", "ref:1"),
-    ("step - 6162 S:0:2:0:2:0:0:1:0000000000000000:0:0", "ref:3 S:0:2:0:2:0:0:1:* 0 0"),
+    ("step - 6162 S:0:2:0:2:0:0:1:0000000000000000:0:0", "ref:4 S:0:2:0:2:0:0:1:* 0 0"),
+    ("step - - S:0:0:0:0:0:0:0:0000000000000000:0:0", "ref:4 S:0:0:0:0:0:0:0:* 0 0"),
+    ("step - - L:0:0:0:0:0:0:0:0000000000000000", "ref:4 L:0:0:0:0:0:0:0:* 0 0"),
     ("step 61 6162 S:1:2:3:2:0:1:1:0000000000000000:0:1", "ref:4 S:1:2:3:2:0:1:1:* 0 0"),
 ];
 
 /// The bounds themselves. Built one by one, since a haystack at its bound takes 64 MiB.
 const BOUNDS: &[Built] = &[
+    (|| step(NEEDLE_BOUND, 3, 3), "done S:65536:3:3:3:* 0 0"),
+    (|| step(NEEDLE_BOUND, 3, 4), "ref:4 S:65536:3:4:3:* 0 0"),
+    (|| step(NEEDLE_BOUND + 1, 3, 4), "ref:2 S:65537:3:4:3:* 0 0"),
     (|| search(NEEDLE_BOUND, NEEDLE_BOUND + 5, false), "at:5 * * *"),
     (|| search(NEEDLE_BOUND, NEEDLE_BOUND + 5, true), "at:0 * * *"),
     (|| search(NEEDLE_BOUND + 1, NEEDLE_BOUND + 5, false), "ref:2"),
@@ -76,6 +108,8 @@ const BOUNDS: &[Built] = &[
     (|| search(1, HAYSTACK_BOUND, false), "at:67108863 0 67108864 0"),
     (|| search(1, HAYSTACK_BOUND, true), "at:0 0 67108864 0"),
     (|| search(0, HAYSTACK_BOUND, true), "at:67108864 0 0 0"),
+    (|| blank(HAYSTACK_BOUND), "ok 0 match:67108864:67108864/0/0 E:0:67108864:0:67108864:1:0"),
+    (|| blank(HAYSTACK_BOUND + 1), "ref:1"),
     (|| absent(1, HAYSTACK_BOUND, false), "none 0 67108864 0"),
     (|| absent(2, HAYSTACK_BOUND, false), "none * 0 *"),
     (|| absent(2, HAYSTACK_BOUND, true), "none * 0 *"),
@@ -89,9 +123,6 @@ const BOUNDS: &[Built] = &[
     (|| Case::Suffix { word: ones(NEEDLE_BOUND + 1), greater: true }, "ref:2"),
     (|| reverse(NEEDLE_BOUND), "ok 0 65535"),
     (|| reverse(NEEDLE_BOUND + 1), "ref:2"),
-    (|| step(NEEDLE_BOUND, 3, 3), "done S:65536:3:3:3:* 0 0"),
-    (|| step(NEEDLE_BOUND, 3, 4), "ref:4 S:65536:3:4:3:* 0 0"),
-    (|| step(NEEDLE_BOUND + 1, 3, 4), "ref:2 S:65537:3:4:3:* 0 0"),
 ];
 
 /// The table's lines.
@@ -127,6 +158,11 @@ fn search(m: usize, n: usize, backward: bool) -> Case {
 /// Ones in zeros alone.
 fn absent(m: usize, n: usize, backward: bool) -> Case {
     Case::Search { needle: ones(m), haystack: vec![0; n], backward }
+}
+
+/// A walk of an empty needle.
+fn blank(n: usize) -> Case {
+    Case::Walk { needle: Word::new(), haystack: vec![0; n], script: vec![Call::NextBack] }
 }
 
 fn reverse(len: usize) -> Case {

@@ -76,6 +76,49 @@ fn handed_in() -> impl Iterator<Item = Case> {
     )
 }
 
+/// Every script of up to 6 calls over an empty needle, in haystacks of up to 6 letters.
+pub fn empty_walks() -> impl Iterator<Item = Case> {
+    (0..=6).flat_map(|n| {
+        let walk = move |script| {
+            let (needle, haystack) = (Vec::new(), words::power(AB, n));
+            Case::Walk { needle, haystack, script }
+        };
+        scripts::every(6).map(walk)
+    })
+}
+
+/// States of walks whose needle has bytes, also where they name an empty one; the states at the
+/// start, for no byte too, with one number changed.
+fn two_way(n: usize) -> impl Iterator<Item = State> {
+    let fitting = (1..=2).flat_map(move |m| states::all_fitting(m, n, 0));
+    let starts = (0..=2).map(move |m| states::at_start(m, n));
+    let changed = starts.clone().flat_map(|state| states::with_one_change(&state));
+    fitting.flat_map(|state| [state, State { m: 0, ..state }]).chain(starts).chain(changed)
+}
+
+/// Every call with every state of an empty needle's walk in haystacks of up to 4 letters and with
+/// each of these with one number changed, over an empty needle and over one of one letter; and
+/// with states of the other kind over an empty needle. With each whether its state fits.
+pub fn empty_calls() -> impl Iterator<Item = (Case, bool)> {
+    (0..=4).flat_map(|n| {
+        let fitting: Vec<State> = states::all_fitting(0, n, 0).collect();
+        let changed = fitting.iter().flat_map(states::with_one_change);
+        let empty: Vec<State> = fitting.iter().copied().chain(changed).collect();
+        let blank = empty.iter().map(|&state| (Word::new(), state, fitting.contains(&state)));
+        let letter = empty.iter().map(|&state| (b"a".to_vec(), state, false));
+        let other = two_way(n).map(|state| (Word::new(), state, false));
+        let all = blank.chain(letter).chain(other);
+        all.flat_map(|(needle, state, fits)| {
+            Call::ALL.map(|call| {
+                let (needle, haystack) = (needle.clone(), words::power(AB, n));
+                (Case::Call { call, needle, haystack, state }, fits)
+            })
+        })
+        .collect::<Vec<_>>()
+    })
+}
+
 pub fn cases() -> impl Iterator<Item = Case> {
-    suffixes().chain(walks()).chain(handed_in())
+    let empty = empty_walks().chain(empty_calls().map(|(case, _)| case));
+    suffixes().chain(walks()).chain(handed_in()).chain(empty)
 }

@@ -1,9 +1,11 @@
-//! Holds the model's reply against the original's, if the original is at hand.
+//! Holds the model's reply against the original's, if the original is at hand; in walks of an empty
+//! needle against the original told again.
 
 use crate::case::*;
 use crate::line;
 use crate::model::{Model, RULES};
 use crate::original;
+use crate::retold;
 
 /// Who judges.
 pub const JUDGES: &str =
@@ -17,10 +19,13 @@ pub fn judge(model: &Model, case: &Case) -> Result<Reply, String> {
     if RULES.refusal_of(case).is_some() {
         return Ok(reply);
     }
-    match original::replies(case) {
-        Some((plain, counted)) => agree(&reply, &plain, &counted)?,
+    if let Some(retold) = retold::reply(case) {
+        agree_with("Rust told again", &reply, &retold)?;
+    } else if let Some((plain, counted)) = original::replies(case) {
+        agree(&reply, &plain, &counted)?;
+    } else {
         // The right model stands in, so that a wrong one is still seen to differ.
-        None => agree_with_rules(&reply, &RULES.reply(case))?,
+        agree_with("rules", &reply, &RULES.reply(case))?;
     }
     Ok(reply)
 }
@@ -37,11 +42,11 @@ fn agree(reply: &Reply, plain: &Reply, counted: &Reply) -> Result<(), String> {
     Err(why)
 }
 
-fn agree_with_rules(reply: &Reply, right: &Reply) -> Result<(), String> {
+fn agree_with(name: &str, reply: &Reply, right: &Reply) -> Result<(), String> {
     if reply == right {
         return Ok(());
     }
-    Err(format!("model: {} | rules: {}", line::show_reply(reply), line::show_reply(right)))
+    Err(format!("model: {} | {name}: {}", line::show_reply(reply), line::show_reply(right)))
 }
 
 /// Where a search that is not refused finds the needle, by the unchanged Rust, or by the model

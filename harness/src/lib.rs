@@ -17,6 +17,7 @@ pub mod original;
 #[cfg(feature = "port")]
 pub mod port;
 pub mod program;
+pub mod retold;
 pub mod scripts;
 pub mod states;
 pub mod words;

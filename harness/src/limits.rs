@@ -5,7 +5,7 @@
 pub const HAYSTACK_BOUND: usize = 67_108_864;
 pub const NEEDLE_BOUND: usize = 65_536;
 
-/// The numbers of the refusals.
+/// The numbers of the refusals. No call gives NEEDLE_EMPTY since 02's request [1].
 pub const HAYSTACK_TOO_LONG: u8 = 1;
 pub const NEEDLE_TOO_LONG: u8 = 2;
 pub const NEEDLE_EMPTY: u8 = 3;

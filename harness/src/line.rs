@@ -11,12 +11,12 @@ pub fn parse(line: &[u8]) -> Option<Case> {
     let fields: Vec<&[u8]> = line.split(|&byte| byte == b' ').collect();
     Some(match fields[..] {
         [b"msuf", text, order] => {
-            Case::Suffix { word: parse_word(text)?, greater: parse_order(order)? }
+            Case::Suffix { word: parse_word(text)?, greater: parse_bit(order)? }
         }
         [b"rmsuf", text, known, order] => Case::ReverseSuffix {
             word: parse_word(text)?,
             known: parse_number(known)?,
-            greater: parse_order(order)?,
+            greater: parse_bit(order)?,
         },
         [b"prep", needle, n] => Case::Prepare { needle: parse_word(needle)?, n: parse_number(n)? },
         [name @ (b"find" | b"rfind"), needle, haystack] => Case::Search {
@@ -65,7 +65,8 @@ fn parse_script(text: &[u8]) -> Option<Vec<Call>> {
     text.iter().map(call).collect()
 }
 
-fn parse_order(text: &[u8]) -> Option<bool> {
+/// An order or a flag.
+fn parse_bit(text: &[u8]) -> Option<bool> {
     match text {
         b"0" => Some(false),
         b"1" => Some(true),
@@ -107,27 +108,26 @@ fn parse_set(text: &[u8]) -> Option<u64> {
 
 fn parse_state(text: &[u8]) -> Option<State> {
     let fields: Vec<&[u8]> = text.split(|&byte| byte == b':').collect();
-    let (kind, fields) = fields.split_first()?;
-    let memory = match (*kind, fields.len()) {
-        (b"L", 8) => Memory::Long,
-        (b"S", 10) => {
-            let (forward, backward) = (parse_number(fields[8])?, parse_number(fields[9])?);
-            Memory::Short { forward, backward }
+    let [kind, m, n, position, end, rest @ ..] = &fields[..] else { return None };
+    let kind = match (*kind, rest) {
+        (b"E", [forward, backward]) => {
+            Kind::Empty { forward: parse_bit(forward)?, backward: parse_bit(backward)? }
+        }
+        (b"L", [splits @ .., set]) => parse_two_way(splits, set, Memory::Long)?,
+        (b"S", [splits @ .., set, forward, backward]) => {
+            let (forward, backward) = (parse_number(forward)?, parse_number(backward)?);
+            parse_two_way(splits, set, Memory::Short { forward, backward })?
         }
         _ => return None,
     };
-    let number = |place: usize| parse_number(fields[place]);
-    Some(State {
-        m: number(0)?,
-        n: number(1)?,
-        position: number(2)?,
-        end: number(3)?,
-        c: number(4)?,
-        b: number(5)?,
-        p: number(6)?,
-        set: parse_set(fields[7])?,
-        memory,
-    })
+    let (m, n) = (parse_number(m)?, parse_number(n)?);
+    Some(State { m, n, position: parse_number(position)?, end: parse_number(end)?, kind })
+}
+
+fn parse_two_way(splits: &[&[u8]], set: &[u8], memory: Memory) -> Option<Kind> {
+    let [c, b, p] = splits else { return None };
+    let (c, b, p) = (parse_number(c)?, parse_number(b)?, parse_number(p)?);
+    Some(Kind::TwoWay(TwoWay { c, b, p, set: parse_set(set)?, memory }))
 }
 
 pub fn show_case(case: &Case) -> String {
@@ -163,11 +163,18 @@ pub fn show_word(word: &[u8]) -> String {
 }
 
 pub fn show_state(state: &State) -> String {
-    let State { m, n, position, end, c, b, p, set, memory } = state;
-    let numbers = format!("{m}:{n}:{position}:{end}:{c}:{b}:{p}:{set:016x}");
-    match memory {
-        Memory::Long => format!("L:{numbers}"),
-        Memory::Short { forward, backward } => format!("S:{numbers}:{forward}:{backward}"),
+    let State { m, n, position, end, kind } = state;
+    let numbers = format!("{m}:{n}:{position}:{end}");
+    match kind {
+        Kind::Empty { forward, backward } => {
+            format!("E:{numbers}:{}:{}", *forward as u8, *backward as u8)
+        }
+        Kind::TwoWay(TwoWay { c, b, p, set, memory: Memory::Long }) => {
+            format!("L:{numbers}:{c}:{b}:{p}:{set:016x}")
+        }
+        Kind::TwoWay(TwoWay { c, b, p, set, memory: Memory::Short { forward, backward } }) => {
+            format!("S:{numbers}:{c}:{b}:{p}:{set:016x}:{forward}:{backward}")
+        }
     }
 }
 

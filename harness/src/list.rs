@@ -8,7 +8,7 @@ use crate::model::{fits, RULES};
 use crate::naive;
 use crate::scripts;
 use crate::states;
-use crate::words::{self, Dice, ALPHABETS};
+use crate::words::{self, Dice, ALPHABETS, EDGES};
 use std::collections::HashSet;
 
 /// The paper's pages.
@@ -68,7 +68,7 @@ const WALKED: &[(&str, &str)] = &[
 /// Its tests search this for each of its own parts.
 const SEARCHED: &str = "Việt Namacbaabcaabaaba";
 
-const MALFORMED: &[&str] = &[
+pub const MALFORMED: &[&str] = &[
     "",
     " ",
     "-",
@@ -126,10 +126,29 @@ const MALFORMED: &[&str] = &[
     "next 61 6161 L:2:2:0:2:1:1:2:0000000200000000:",
     "stepf 61 6161 S:1:2:0:2:0:1:1:0000000200000000:0:1",
     "quit",
+    "prep - -",
+    "walk - 6161 E:0:2:0:2:1:1",
+    "step - 6161 E:0:2:0:2:1:2",
+    "step - 6161 E:0:2:0:2:2:1",
+    "step - 6161 E:0:2:0:2:1:01",
+    "step - 6161 E:0:2:0:2:00:1",
+    "step - 6161 E:0:2:0:2:1:",
+    "step - 6161 E:0:2:0:2::1",
+    "step - 6161 E:0:2:0:2:1",
+    "step - 6161 E:0:2:0:2",
+    "step - 6161 E",
+    "step - 6161 E:0:2:0:2:1:1:1",
+    "step - 6161 E:0:2:0:2:0:0:1:0000000000000000",
+    "step - 6161 E:0:2:0:2:0:0:1:0000000000000000:1:1",
+    "step - 6161 e:0:2:0:2:1:1",
+    "step - 6161 L:0:2:0:2:1:1",
+    "step - 6161 S:0:2:0:2:1:1",
+    "step - 6161 E:0:2::2:1:1",
+    "step - 6161 E:0:2:0:18446744073709551616:1:1",
 ];
 
 /// Well formed, though they look odd.
-const ODD: &[&str] = &[
+pub const ODD: &[&str] = &[
     "rmsuf 61 18446744073709551615 0",
     "rmsuf 616261 00000000000000000002 1",
     "prep 6162 18446744073709551615",
@@ -137,6 +156,9 @@ const ODD: &[&str] = &[
     "step 61 6161 S:01:2:00:2:0:1:1:0000000200000000:0:1",
     "step 61 6161 S:01:2:03:2:0:1:1:0000000200000000:0:1",
     "nextb 61 6161 S:1:2:18446744073709551615:2:0:1:1:ffffffffffffffff:0:1",
+    "prep - 007",
+    "next - 6161 E:00:02:01:2:0:1",
+    "nextb - 6161 E:0:2:0:18446744073709551615:1:1",
 ];
 
 /// One carriage return at the end of a line is let pass: no second one, and none before it.
@@ -164,7 +186,11 @@ pub fn lines() -> Vec<String> {
     list.large();
     list.handed_in();
     list.other_needle();
-    list.broken(&[(b"aabaab", b"aabaabxaa"), (b"baabb", b"baabbbaabc")]);
+    list.broken(&[(b"aabaab", b"aabaabxaa"), (b"baabb", b"baabbbaabc"), (b"", b"abc")]);
+    list.empty_walks();
+    list.empty_seeded(&[1, 1, 1, 1, 2, 2, 2, 2, 3, 3, 3, 3]);
+    list.empty_seeded(&EDGES);
+    list.other_kind();
     list.texts(ODD.iter().copied());
     list.texts(MALFORMED.iter().copied());
     list.limits();
@@ -181,7 +207,14 @@ pub fn batch(seed: u64) -> Vec<Vec<u8>> {
     list.handed_in();
     list.other_needle();
     let (needle, haystack) = words::pair(&mut list.dice, 12, 30);
-    list.broken(&[(&needle, &haystack)]);
+    list.broken(&[(&needle, &haystack), (b"", &haystack)]);
+    let n = list.dice.between(2, 30);
+    list.empty_seeded(&[2, 2, 3, 3, n, n, n, n]);
+    list.empty_seeded(&EDGES);
+    for n in [HAYSTACK_BOUND, HAYSTACK_BOUND + 1] {
+        list.case(Case::Prepare { needle: Word::new(), n });
+    }
+    list.other_kind();
     list.texts(ODD.iter().copied());
     list.texts(MALFORMED.iter().copied());
     let mut lines = list.damaged(120);
@@ -299,8 +332,7 @@ impl List {
             let (needle, haystack) = words::pair(&mut self.dice, 9, 30);
             let round = self.dice.pick(&Call::ALL);
             self.walk(&needle, &haystack, scripts::whole(&needle, &haystack, &[round]));
-            let calls = self.dice.between(2, 12);
-            let script = (0..calls).map(|_| self.dice.pick(&Call::ALL)).collect();
+            let script = scripts::any(&mut self.dice, 2, 12);
             self.walk(&needle, &haystack, script);
         }
     }
@@ -350,7 +382,7 @@ impl List {
             let (needle, haystack) = words::pair(&mut self.dice, 6, 14);
             let (m, n) = (needle.len(), haystack.len());
             let any = self.dice.roll();
-            let own = RULES.prepare(&needle, n).0.set;
+            let own = RULES.split(&needle).0.set;
             let set = self.dice.pick(&[own, own, u64::MAX, 0, any]);
             let state = states::any_fitting(&mut self.dice, m, n, set);
             let call = self.dice.pick(&Call::ALL);
@@ -383,6 +415,42 @@ impl List {
         }
     }
 
+    /// An empty needle in short haystacks, to the end and past it.
+    fn empty_walks(&mut self) {
+        let mixed: &[Call] = &[Call::Step, Call::NextBack, Call::StepBack, Call::Next];
+        for haystack in (0..=3).map(|n| words::power(b"ab", n)) {
+            for round in Call::ALL.chunks(1).chain([mixed]) {
+                self.walk(b"", &haystack, scripts::whole(b"", &haystack, round));
+            }
+        }
+    }
+
+    /// Scripts and states of an empty needle, in haystacks of these lengths. In a short one a script
+    /// of so many calls mostly comes to both ends.
+    fn empty_seeded(&mut self, lengths: &[usize]) {
+        for (&n, call) in lengths.iter().zip(Call::ALL.into_iter().cycle()) {
+            let haystack = words::random(&mut self.dice, ALPHABETS[2], n);
+            let script = scripts::any(&mut self.dice, 1, SCRIPT_LETTERS.min(6 * n + 6));
+            self.walk(b"", &haystack, script);
+            let state = states::any_fitting(&mut self.dice, 0, n, 0);
+            self.call(call, b"", &haystack, state);
+            self.case(Case::Prepare { needle: Word::new(), n });
+        }
+    }
+
+    /// States of an empty needle's walk handed in with a needle of one byte, also where they name
+    /// its length, and states of that needle's walk handed in with an empty one.
+    fn other_kind(&mut self) {
+        let (empty, _) = RULES.prepare(b"", 2);
+        let (two_way, _) = RULES.prepare(b"a", 2);
+        for call in Call::ALL {
+            for m in 0..=1 {
+                self.call(call, b"a", b"ab", State { m, ..empty });
+                self.call(call, b"", b"ab", State { m, ..two_way });
+            }
+        }
+    }
+
     /// All that can be asked of words as long as a line takes.
     fn long_words(&mut self) {
         for needle_max in [12, 300, WORD_BYTES] {
@@ -393,11 +461,11 @@ impl List {
             self.reverse_suffixes(&needle, naive::smallest_period(&needle));
             self.reverse_suffixes(&needle, any);
             self.searches(&needle, &haystack);
-            let calls = self.dice.between(1, 40);
-            let script = (0..calls).map(|_| self.dice.pick(&Call::ALL)).collect();
+            let script = scripts::any(&mut self.dice, 1, 40);
             self.walk(&needle, &haystack, script);
             let (prepared, _) = RULES.prepare(&needle, n);
-            let fitting = states::any_fitting(&mut self.dice, m, n, prepared.set);
+            let set = RULES.split(&needle).0.set;
+            let fitting = states::any_fitting(&mut self.dice, m, n, set);
             for call in Call::ALL {
                 self.call(call, &needle, &haystack, prepared);
                 self.call(call, &needle, &haystack, fitting);

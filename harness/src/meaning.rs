@@ -31,8 +31,8 @@ pub fn check(case: &Case, reply: &Reply) -> Result<(), String> {
             let holds = refused || within(&called.counts, needle.len(), left(*call, state));
             ensure(holds, TOO_MANY)
         }
-        (Case::Walk { needle, haystack, script }, Reply::Walked { calls, .. }) => {
-            walked(needle, haystack, script, calls)
+        (Case::Walk { needle, haystack, script }, Reply::Walked { calls, state, .. }) => {
+            walked(needle, haystack, script, calls, state)
         }
         (_, Reply::Refused(_)) => Ok(()),
         _ => Err("a reply to another question".to_string()),
@@ -56,9 +56,10 @@ pub fn left(call: Call, state: &State) -> usize {
     }
 }
 
-/// Demand 3 for a walk one way over `left` bytes.
+/// Demand 3 for a walk one way over `left` bytes. "For an empty needle all counts are 0 and demand
+/// 3 reads so."
 pub fn within(counts: &Counts, m: usize, left: usize) -> bool {
-    if m > left {
+    if m == 0 || m > left {
         return counts.comparisons == 0 && counts.tests == 0;
     }
     counts.comparisons <= (2 * left - m) as u64 && counts.tests <= (left - m + 1) as u64
@@ -70,15 +71,16 @@ fn few_rounds(preparing: u64, m: usize) -> Result<(), String> {
 }
 
 fn prepared(needle: &[u8], n: usize, state: &State, preparing: u64) -> Result<(), String> {
-    let State { m, c, p, .. } = *state;
+    let m = needle.len();
     let period = naive::smallest_period(needle);
-    let period_holds = match state.memory {
-        Memory::Short { .. } => p == period,
-        Memory::Long => c.max(m - c) < p && p <= period,
+    let kind_holds = match state.kind {
+        Kind::TwoWay(TwoWay { p, memory: Memory::Short { .. }, .. }) => p == period,
+        Kind::TwoWay(TwoWay { c, p, .. }) => c.max(m - c) < p && p <= period,
+        Kind::Empty { forward, backward } => forward && backward,
     };
-    ensure(fits(state, needle.len(), n), "a prepared state that does not fit")?;
+    ensure(fits(state, m, n), "a prepared state that does not fit")?;
     ensure(state.position == 0 && state.end == n, "cursors not at the ends")?;
-    ensure(period_holds, "the wrong kind of period")?;
+    ensure(kind_holds, "the wrong kind of period, or a flag that is not set")?;
     few_rounds(preparing, m)
 }
 
@@ -103,32 +105,33 @@ fn walked(
     haystack: &[u8],
     script: &[Call],
     calls: &[(Answer, Counts)],
+    last: &State,
 ) -> Result<(), String> {
     let n = haystack.len();
     let (mut forward, mut backward) = (Vec::new(), Vec::new());
     for (&call, &(answer, counts)) in script.iter().zip(calls) {
-        match call {
-            Call::Step => forward.push((true, answer, counts)),
-            Call::Next => forward.push((false, answer, counts)),
-            Call::StepBack => backward.push((true, mirrored(answer, n), counts)),
-            Call::NextBack => backward.push((false, mirrored(answer, n), counts)),
+        if call.is_backward() {
+            backward.push((call.is_step(), answer.mirrored(n), counts));
+        } else {
+            forward.push((call.is_step(), answer, counts));
         }
     }
     // Backward is forward in a mirror, and neither direction may disturb the other.
-    one_way(needle, haystack, &forward)?;
-    one_way(&naive::reversed(needle), &naive::reversed(haystack), &backward)
-}
-
-fn mirrored(answer: Answer, n: usize) -> Answer {
-    match answer {
-        Answer::Match(a, b) => Answer::Match(n - b, n - a),
-        Answer::Reject(a, b) => Answer::Reject(n - b, n - a),
-        other => other,
+    let forward = one_way(needle, haystack, &forward)?;
+    let backward = one_way(&naive::reversed(needle), &naive::reversed(haystack), &backward)?;
+    let cursors = last.position == forward.0 && last.end == n - backward.0;
+    ensure(cursors, "the cursors are not where the answers ended")?;
+    match last.kind {
+        Kind::Empty { forward: f, backward: b } => {
+            ensure((f, b) == (forward.1, backward.1), "a flag is not whether a Match is next")
+        }
+        Kind::TwoWay(_) => Ok(()),
     }
 }
 
-/// The answers go through the haystack without gaps, and their matches are the greedy list.
-fn one_way(needle: &[u8], haystack: &[u8], said: &[Said]) -> Result<(), String> {
+/// The answers go through the haystack without gaps, and their matches are the greedy list, all
+/// of it before the end. Gives the place where they end, and whether the next match is right there.
+fn one_way(needle: &[u8], haystack: &[u8], said: &[Said]) -> Result<(usize, bool), String> {
     let n = haystack.len();
     let meant = naive::greedy(needle, haystack);
     let mut ahead = meant.iter().copied().peekable();
@@ -142,14 +145,17 @@ fn one_way(needle: &[u8], haystack: &[u8], said: &[Said]) -> Result<(), String> 
                 (next == Some(a) && b == a + needle.len() && (a == at || !stepping), b)
             }
             Answer::Reject(a, b) => (stepping && a == at && a < b && b <= next.unwrap_or(n), b),
-            Answer::Done => (stepping && at == n, n),
+            Answer::Done => (stepping && at == n && next.is_none(), n),
             Answer::None => (!stepping && next.is_none(), n),
             Answer::Refused(_) => (false, at),
         };
-        ensure(holds, &format!("{answer:?} at {at}, though the matches are {meant:?}"))?;
+        if !holds {
+            return Err(format!("{answer:?} at {at}, though the matches are {meant:?}"));
+        }
         at = then;
         total.comparisons += counts.comparisons;
         total.tests += counts.tests;
     }
-    ensure(within(&total, needle.len(), n), TOO_MANY)
+    ensure(within(&total, needle.len(), n), TOO_MANY)?;
+    Ok((at, ahead.next() == Some(at)))
 }

@@ -1,6 +1,6 @@
-//! Document 01 as a program, written from its text and not from the Rust.
+//! Document 01 with request [1] of 02 as a program, written from their text and not from the Rust.
 //!
-//! Sentences in quotes are 01's. `Fault` puts one wrong thing into it on purpose, so that
+//! Sentences in quotes are theirs. `Fault` puts one wrong thing into it on purpose, so that
 //! `oracle break` can show that the comparison with the Rust would notice.
 
 use crate::case::*;
@@ -25,6 +25,11 @@ pub enum Fault {
     KnownPeriodBeforeRound,
     BackwardMemoryIndexIncluded,
     RefusalsInOtherOrder,
+    DoneFlipsFlag,
+    OneFlag,
+    RejectPastEnd,
+    EmptyFitsOneByte,
+    EmptyRefused,
 }
 
 pub struct Model {
@@ -38,7 +43,6 @@ pub const RULES: Model = Model { fault: Fault::None };
 struct Asked<'a> {
     m: usize,
     n: usize,
-    walking: bool,
     state: Option<&'a State>,
 }
 
@@ -49,20 +53,29 @@ pub struct Pass {
     pub rounds: u64,
 }
 
-/// A call in progress.
+/// A call in progress. What the state holds of its kind is in `two_way` meanwhile.
 struct Walk<'a> {
     needle: &'a [u8],
     haystack: &'a [u8],
     state: State,
+    two_way: TwoWay,
     counts: Counts,
 }
 
 /// "A state fits a needle and haystack when all hold"
 pub fn fits(state: &State, m: usize, n: usize) -> bool {
-    let State { c, b, p, .. } = *state;
     let lengths = state.m == m && state.n == n;
     let cursors = state.position <= n && state.end <= n;
-    let splits = match state.memory {
+    let kind = match &state.kind {
+        Kind::TwoWay(two_way) => splits_fit(two_way, m),
+        // "An empty walk's state fits an empty needle only, .. flags as they may be."
+        Kind::Empty { .. } => m == 0,
+    };
+    lengths && cursors && kind
+}
+
+fn splits_fit(&TwoWay { c, b, p, memory, .. }: &TwoWay, m: usize) -> bool {
+    match memory {
         Memory::Short { forward, backward } => {
             c < p
                 && p <= m
@@ -72,8 +85,7 @@ pub fn fits(state: &State, m: usize, n: usize) -> bool {
                 && (backward == m || backward == p)
         }
         Memory::Long => 1 <= c && c < m && b == c && p == max(c, m - c) + 1,
-    };
-    lengths && cursors && splits
+    }
 }
 
 /// "the number, counts 0, no position"
@@ -118,38 +130,44 @@ impl Model {
 
     /// The refusal that 01 gives to a case, if any.
     pub fn refusal_of(&self, case: &Case) -> Option<u8> {
-        let (m, n, walking, state) = match case {
+        let (m, n, state) = match case {
             // "The two maximal suffix calls make only check 2, on their word."
-            Case::Suffix { word, .. } | Case::ReverseSuffix { word, .. } => {
-                (word.len(), 0, false, None)
+            Case::Suffix { word, .. } | Case::ReverseSuffix { word, .. } => (word.len(), 0, None),
+            Case::Prepare { needle, n } => (needle.len(), *n, None),
+            Case::Search { needle, haystack, .. } | Case::Walk { needle, haystack, .. } => {
+                (needle.len(), haystack.len(), None)
             }
-            Case::Prepare { needle, n } => (needle.len(), *n, true, None),
-            Case::Search { needle, haystack, .. } => (needle.len(), haystack.len(), false, None),
             Case::Call { needle, haystack, state, .. } => {
-                (needle.len(), haystack.len(), true, Some(state))
+                (needle.len(), haystack.len(), Some(state))
             }
-            Case::Walk { needle, haystack, .. } => (needle.len(), haystack.len(), true, None),
         };
-        self.refusal(&Asked { m, n, walking, state })
+        self.refusal(&Asked { m, n, state })
     }
 
     /// The refusal of a find or rfind, by the lengths alone.
     pub fn refusal_of_search(&self, m: usize, n: usize) -> Option<u8> {
-        self.refusal(&Asked { m, n, walking: false, state: None })
+        self.refusal(&Asked { m, n, state: None })
     }
 
-    /// "Checks run in the order 1, 2, 3, 4, and the first that applies is the answer"
-    fn refusal(&self, asked: &Asked) -> Option<u8> {
+    /// "Checks run in the order 1, 2, 3, 4, and the first that applies is the answer"; but
+    /// "Preparing and walking no longer give refusal 3."
+    fn refusal(&self, &Asked { m, n, state }: &Asked) -> Option<u8> {
+        let empty_refused = self.fault == Fault::EmptyRefused && m == 0 && state.is_some();
         let mut checks = [
-            (HAYSTACK_TOO_LONG, asked.n > HAYSTACK_BOUND),
-            (NEEDLE_TOO_LONG, asked.m > NEEDLE_BOUND),
-            (NEEDLE_EMPTY, asked.walking && asked.m == 0),
-            (STATE_DOES_NOT_FIT, asked.state.is_some_and(|state| !fits(state, asked.m, asked.n))),
+            (HAYSTACK_TOO_LONG, n > HAYSTACK_BOUND),
+            (NEEDLE_TOO_LONG, m > NEEDLE_BOUND),
+            (NEEDLE_EMPTY, empty_refused),
+            (STATE_DOES_NOT_FIT, state.is_some_and(|state| !self.fits(state, m, n))),
         ];
         if self.fault == Fault::RefusalsInOtherOrder {
             checks.reverse();
         }
         checks.iter().find(|check| check.1).map(|check| check.0)
+    }
+
+    fn fits(&self, state: &State, m: usize, n: usize) -> bool {
+        let as_empty = self.fault == Fault::EmptyFitsOneByte && m == 1;
+        fits(state, m, n) || as_empty && fits(state, 0, n)
     }
 
     pub fn maximal_suffix(&self, word: &[u8], greater: bool) -> Pass {
@@ -196,7 +214,17 @@ impl Model {
 
     /// The state and the preparing count, for a needle and a length that are not refused.
     pub fn prepare(&self, needle: &[u8], n: usize) -> (State, u64) {
-        let m = needle.len();
+        let (kind, preparing) = if needle.is_empty() {
+            (Kind::Empty { forward: true, backward: true }, 0)
+        } else {
+            let (two_way, preparing) = self.split(needle);
+            (Kind::TwoWay(two_way), preparing)
+        };
+        (State { m: needle.len(), n, position: 0, end: n, kind }, preparing)
+    }
+
+    /// The splits and all that goes with them, for a needle that has bytes.
+    pub fn split(&self, needle: &[u8]) -> (TwoWay, u64) {
         // 1. "Take the false order's pair if its start is strictly greater, else the true
         // order's."
         let low = self.maximal_suffix(needle, false);
@@ -208,38 +236,39 @@ impl Model {
         let equal = (0..c).take_while(|&i| needle[i] == needle[p + i]).count();
         let pairs = min(equal + 1, c) as u64;
         let mut preparing = low.rounds + high.rounds + pairs;
-        let mut state =
-            State { m, n, position: 0, end: n, c, b: c, p, set: 0, memory: Memory::Long };
+        let mut two_way = TwoWay { c, b: c, p, set: 0, memory: Memory::Long };
         if equal == c {
-            preparing += self.become_short(needle, &mut state);
+            preparing += self.become_short(needle, &mut two_way);
         } else {
-            self.become_long(needle, &mut state);
+            self.become_long(needle, &mut two_way);
         }
-        (state, preparing)
+        (two_way, preparing)
     }
 
     /// 3. Gives the rounds of the two reverse passes.
-    fn become_short(&self, needle: &[u8], state: &mut State) -> u64 {
-        let low = self.reverse_maximal_suffix(needle, state.p, false);
-        let high = self.reverse_maximal_suffix(needle, state.p, true);
+    fn become_short(&self, needle: &[u8], two_way: &mut TwoWay) -> u64 {
+        let m = needle.len();
+        let low = self.reverse_maximal_suffix(needle, two_way.p, false);
+        let high = self.reverse_maximal_suffix(needle, two_way.p, true);
         if self.fault != Fault::BackSplitFromForward {
-            state.b = state.m - max(low.start, high.start);
+            two_way.b = m - max(low.start, high.start);
         }
-        state.set = self.fingerprint(&needle[..state.p]);
-        state.memory = Memory::Short { forward: 0, backward: state.m };
+        two_way.set = self.fingerprint(&needle[..two_way.p]);
+        two_way.memory = Memory::Short { forward: 0, backward: m };
         low.rounds + high.rounds
     }
 
     /// 4.
-    fn become_long(&self, needle: &[u8], state: &mut State) {
-        state.p = max(state.c, state.m - state.c) + 1;
+    fn become_long(&self, needle: &[u8], two_way: &mut TwoWay) {
+        let m = needle.len();
+        two_way.p = max(two_way.c, m - two_way.c) + 1;
         if self.fault == Fault::LongStoresSmallestPeriod {
-            state.p = naive::smallest_period(needle);
+            two_way.p = naive::smallest_period(needle);
         }
         if self.fault == Fault::LongPeriodTakenAsPeriod {
-            state.memory = Memory::Short { forward: 0, backward: state.m };
+            two_way.memory = Memory::Short { forward: 0, backward: m };
         }
-        state.set = self.fingerprint(needle);
+        two_way.set = self.fingerprint(needle);
     }
 
     /// "A byte sets bit (byte AND 63) of the fingerprint."
@@ -255,17 +284,65 @@ impl Model {
     /// One call that takes a state.
     pub fn call(&self, call: Call, needle: &[u8], haystack: &[u8], state: State) -> Called {
         let (m, n) = (needle.len(), haystack.len());
-        if let Some(number) = self.refusal(&Asked { m, n, walking: true, state: Some(&state) }) {
+        if let Some(number) = self.refusal(&Asked { m, n, state: Some(&state) }) {
             return refused(number, state);
         }
-        let mut walk = Walk { needle, haystack, state, counts: Counts::default() };
-        let answer = match call {
-            Call::Step => self.forward(&mut walk, true),
-            Call::StepBack => self.backward(&mut walk, true),
-            Call::Next => self.forward(&mut walk, false),
-            Call::NextBack => self.backward(&mut walk, false),
-        };
-        Called { answer, state: walk.state, counts: walk.counts }
+        match state.kind {
+            Kind::Empty { forward, backward } => self.empty(call, state, forward, backward),
+            Kind::TwoWay(two_way) => {
+                let counts = Counts::default();
+                let mut walk = Walk { needle, haystack, state, two_way, counts };
+                let answer = if call.is_backward() {
+                    self.backward(&mut walk, call.is_step())
+                } else {
+                    self.forward(&mut walk, call.is_step())
+                };
+                let state = State { kind: Kind::TwoWay(walk.two_way), ..walk.state };
+                Called { answer, state, counts: walk.counts }
+            }
+        }
+    }
+
+    /// "forward Match(0,0), Reject(0,1), Match(1,1) up to Match(n,n), then Done; backward the
+    /// mirror." A direction's cursor and flag tell how many of these it has given. "For an empty
+    /// needle all counts are 0".
+    fn empty(&self, call: Call, mut state: State, mut forward: bool, mut backward: bool) -> Called {
+        let n = state.n;
+        let (cursor, flag) =
+            if call.is_backward() { (n - state.end, backward) } else { (state.position, forward) };
+        let (mut answer, given) = self.given(2 * cursor + usize::from(!flag), n, call.is_step());
+        let (cursor, flag) = (given / 2, given % 2 == 0);
+        if call.is_backward() {
+            (state.end, backward) = (n - cursor, flag);
+            answer = answer.mirrored(n);
+        } else {
+            (state.position, forward) = (cursor, flag);
+        }
+        if self.fault == Fault::OneFlag {
+            (forward, backward) = (flag, flag);
+        }
+        let past_end = self.fault == Fault::RejectPastEnd && call == Call::Step;
+        if past_end && answer == Answer::Done {
+            answer = Answer::Reject(n, n + 1);
+        }
+        state.kind = Kind::Empty { forward, backward };
+        Called { answer, state, counts: Counts::default() }
+    }
+
+    /// What comes behind the first `given` of these, and how many are given then.
+    fn given(&self, given: usize, n: usize, stepping: bool) -> (Answer, usize) {
+        let (place, matched) = (given / 2, given % 2 == 1);
+        if !matched {
+            (Answer::Match(place, place), given + 1)
+        } else if place < n && stepping {
+            (Answer::Reject(place, place + 1), given + 1)
+        } else if place < n {
+            (Answer::Match(place + 1, place + 1), given + 2)
+        } else {
+            // "In the Rust the flag flips again after Done .. Ours stays Done"
+            let flipped = usize::from(self.fault == Fault::DoneFlipsFlag);
+            (if stepping { Answer::Done } else { Answer::None }, given - flipped)
+        }
     }
 
     /// `stepping` is false for next match: "the same without Done and without the middle
@@ -294,14 +371,15 @@ impl Model {
     /// Looks at the window that ends with index `last`, and moves; says whether the needle is
     /// there.
     fn forward_window(&self, walk: &mut Walk, last: usize) -> bool {
-        let State { m, c, p, position, .. } = walk.state;
+        let State { m, position, .. } = walk.state;
+        let TwoWay { c, p, memory, .. } = walk.two_way;
         if !self.test(walk, last) {
             walk.state.position += m;
             self.forget_forward(walk, Fault::MemoryKeptAfterSkip);
             return false;
         }
         // Long compares from c up and then down to 0, as a memory of 0 does.
-        let memory = match walk.state.memory {
+        let memory = match memory {
             Memory::Short { forward, .. } => forward,
             Memory::Long => 0,
         };
@@ -326,7 +404,7 @@ impl Model {
 
     /// "a difference moves by p"
     fn left_move(&self, walk: &Walk, p: usize) -> usize {
-        let long = walk.state.memory == Memory::Long;
+        let long = walk.two_way.memory == Memory::Long;
         if long && self.fault == Fault::LongMovesByNeedle {
             walk.state.m
         } else {
@@ -358,14 +436,15 @@ impl Model {
     }
 
     fn backward_window(&self, walk: &mut Walk, start: usize) -> bool {
-        let State { m, b, p, .. } = walk.state;
+        let m = walk.state.m;
+        let TwoWay { b, p, memory, .. } = walk.two_way;
         if !self.test(walk, start) {
             walk.state.end -= m;
             self.remember_backward(walk, m);
             return false;
         }
         // Long compares from b-1 down and then up to m, as a memory of m does.
-        let memory = match walk.state.memory {
+        let memory = match memory {
             Memory::Short { backward, .. } => backward,
             Memory::Long => m,
         };
@@ -394,7 +473,7 @@ impl Model {
     /// "Tests: one for each fingerprint test"
     fn test(&self, walk: &mut Walk, index: usize) -> bool {
         walk.counts.tests += 1;
-        walk.state.set & self.bit(walk.haystack[index]) != 0
+        walk.two_way.set & self.bit(walk.haystack[index]) != 0
     }
 
     /// "Comparisons: one for each needle byte set against a haystack byte, the differing one
@@ -415,7 +494,7 @@ impl Model {
 
     /// "In either direction only Short sets memory; Long has none."
     fn remember_forward(&self, walk: &mut Walk, value: usize) {
-        if let Memory::Short { forward, backward } = &mut walk.state.memory {
+        if let Memory::Short { forward, backward } = &mut walk.two_way.memory {
             *forward = value;
             if self.fault == Fault::SharedMemory {
                 *backward = walk.state.m - value;
@@ -424,7 +503,7 @@ impl Model {
     }
 
     fn remember_backward(&self, walk: &mut Walk, value: usize) {
-        if let Memory::Short { forward, backward } = &mut walk.state.memory {
+        if let Memory::Short { forward, backward } = &mut walk.two_way.memory {
             *backward = value;
             if self.fault == Fault::SharedMemory {
                 *forward = walk.state.m - value;

@@ -25,13 +25,14 @@ pub fn meant(needle: &[u8], haystack: &[u8], backward: bool) -> Option<usize> {
     }
 }
 
-/// The occurrences from the left, each the least one behind the one before.
+/// The occurrences from the left, each the least one behind the one before; of an empty needle
+/// every place once.
 pub fn greedy(needle: &[u8], haystack: &[u8]) -> Vec<usize> {
     let mut list = Vec::new();
     let mut from = 0;
     while let Some(i) = least(needle, haystack, from) {
         list.push(i);
-        from = i + needle.len();
+        from = i + needle.len().max(1);
     }
     list
 }

@@ -36,6 +36,49 @@ mod counted {
     include!("asked.rs");
 }
 
+#[cfg(original)]
+mod pattern {
+    extern crate twoway_pattern;
+    use self::twoway_pattern::pattern::{ReverseSearcher, SearchStep, Searcher};
+    use self::twoway_pattern::StrSearcher;
+    use crate::case::*;
+
+    fn stepped(step: SearchStep) -> Answer {
+        match step {
+            SearchStep::Match(a, b) => Answer::Match(a, b),
+            SearchStep::Reject(a, b) => Answer::Reject(a, b),
+            SearchStep::Done => Answer::Done,
+        }
+    }
+
+    fn matched(found: Option<(usize, usize)>) -> Answer {
+        found.map_or(Answer::None, |(a, b)| Answer::Match(a, b))
+    }
+
+    pub fn walked(haystack: &str, script: &[Call]) -> Vec<Answer> {
+        let mut searcher = StrSearcher::new(haystack, "");
+        let one = |call: &Call| match call {
+            Call::Step => stepped(searcher.next()),
+            Call::StepBack => stepped(searcher.next_back()),
+            Call::Next => matched(searcher.next_match()),
+            Call::NextBack => matched(searcher.next_match_back()),
+        };
+        script.iter().map(one).collect()
+    }
+}
+
+/// The original's own walk of an empty needle, in a haystack whose characters are one byte each.
+#[cfg(original)]
+pub fn empty_walk(haystack: &[u8], script: &[Call]) -> Option<Vec<Answer>> {
+    let haystack = std::str::from_utf8(haystack).ok().filter(|text| text.is_ascii())?;
+    Some(pattern::walked(haystack, script))
+}
+
+#[cfg(not(original))]
+pub fn empty_walk(_: &[u8], _: &[Call]) -> Option<Vec<Answer>> {
+    None
+}
+
 /// The replies of the unchanged Rust, whose counts are 0, and of the copy that counts. Only for
 /// cases that 01 does not refuse: the Rust may panic or never end on the others.
 #[cfg(original)]

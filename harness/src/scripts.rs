@@ -2,18 +2,27 @@
 
 use crate::case::*;
 use crate::model::RULES;
+use crate::words::{self, Dice};
+
+/// Every script of 1 to `longest` calls, the shortest first.
+pub fn every(longest: usize) -> impl Iterator<Item = Vec<Call>> {
+    let places = words::up_to(&[0, 1, 2, 3], longest).skip(1);
+    places.map(|word| word.iter().map(|&place| Call::ALL[usize::from(place)]).collect())
+}
+
+/// A seeded script; both ends included.
+pub fn any(dice: &mut Dice, shortest: usize, longest: usize) -> Vec<Call> {
+    (0..dice.between(shortest, longest)).map(|_| dice.pick(&Call::ALL)).collect()
+}
 
 /// The calls of `round` again and again until none of them has anything left, and then once
-/// more, to see that the end stays the end. An empty needle is refused: one round.
+/// more, to see that the end stays the end.
 pub fn whole(needle: &[u8], haystack: &[u8], round: &[Call]) -> Vec<Call> {
     let mut script = round.to_vec();
-    if needle.is_empty() {
-        return script;
-    }
     let (mut state, _) = RULES.prepare(needle, haystack.len());
-    // A call that has something left moves by a byte at least, so this ends by itself; the
-    // bound keeps a mistake in the model from running on.
-    for _ in 0..=haystack.len() {
+    // A call that has something left moves by a byte at least, or gives an empty match once at
+    // each place, so this ends by itself; the bound keeps a mistake in the model from running on.
+    for _ in 0..2 * (haystack.len() + 1) {
         let mut over = true;
         for &call in round {
             let called = RULES.call(call, needle, haystack, state);

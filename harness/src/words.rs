@@ -1,6 +1,7 @@
 //! Words to try: every word of a length, and seeded ones with structure in them.
 
 use crate::case::Word;
+use crate::limits::{SCRIPT_LETTERS, WORD_BYTES};
 
 /// SplitMix64: small, and the same numbers everywhere.
 pub struct Dice(u64);
@@ -49,6 +50,11 @@ pub type Letters<'a> = (&'a [u8], usize);
 /// longest length.
 pub const ALIKE: (Letters<'static>, Letters<'static>) =
     ((&[0x01, 0x02], 4), (&[0x01, 0x02, 0x41], 7));
+
+/// Lengths of haystacks for an empty needle, where a walk is as long as the haystack: none, one, as
+/// many as a script has letters, and as many as a line takes.
+pub const EDGES: [usize; 6] =
+    [0, 1, SCRIPT_LETTERS - 1, SCRIPT_LETTERS, SCRIPT_LETTERS + 1, WORD_BYTES];
 
 /// All words of one length, in order.
 pub fn all(letters: &[u8], len: usize) -> impl Iterator<Item = Word> + '_ {

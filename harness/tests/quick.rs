@@ -1,14 +1,18 @@
 //! The quick tests: what `harness/check` runs at scale, in some seconds.
 
 use harness::broken;
+use harness::case::{Answer, Call, Kind, State};
 use harness::compare::{compare, QUICK_RUN};
 use harness::examples;
+use harness::exhaustive;
 use harness::judge;
 use harness::limits::{SCRIPT_LETTERS, WORD_BYTES};
 use harness::line;
 use harness::list;
-use harness::model::RULES;
+use harness::meaning;
+use harness::model::{Fault, Model, RULES};
 use harness::program;
+use harness::retold::EmptyNeedle;
 
 const STORED_CASES: &[u8] = include_bytes!("../../crates/walk/stdin");
 const STORED_ANSWERS: &[u8] = include_bytes!("../../crates/walk/stdout");
@@ -74,6 +78,63 @@ fn a_line_is_read_and_printed_as_it_was() {
         }
     }
     assert!(read > 500, "only {read} lines");
+}
+
+#[test]
+fn malformed_lines_are_not_read() {
+    for text in list::MALFORMED {
+        assert!(line::parse(text.as_bytes()).is_none(), "{text}");
+    }
+    for text in list::ODD {
+        assert!(line::parse(text.as_bytes()).is_some(), "{text}");
+    }
+}
+
+/// Every pair of flags that a state can name, to the byte.
+#[test]
+fn a_flag_is_one_digit() {
+    let flags = ["0", "1", "", "2", "00", "01", "10", "11", "-", "+1", "f", "F", "\0", "1\0"];
+    for (i, forward) in flags.iter().enumerate() {
+        for (j, backward) in flags.iter().enumerate() {
+            let text = format!("step - 61 E:0:1:1:0:{forward}:{backward}");
+            let printed = line::parse(text.as_bytes()).map(|case| line::show_case(&case));
+            assert_eq!(printed, Some(text).filter(|_| i < 2 && j < 2));
+        }
+    }
+}
+
+/// The one difference from the original in a walk of an empty needle, on its smallest input: behind
+/// Done the original's flag flips again. What the model is held against has the flag put back.
+#[test]
+fn done_stays_done() {
+    use Answer::{Done, Match};
+    for (call, forward) in [(Call::Step, false), (Call::StepBack, true)] {
+        let mut original = EmptyNeedle::new(0);
+        let given = [(); 4].map(|()| original.called(call, b""));
+        assert_eq!(given, [Match(0, 0), Done, Match(0, 0), Done]);
+        let (mut state, _) = RULES.prepare(b"", 0);
+        let given = [(); 4].map(|()| {
+            let called = RULES.call(call, b"", b"", state);
+            state = called.state;
+            called.answer
+        });
+        assert_eq!(given, [Match(0, 0), Done, Done, Done]);
+        let kind = Kind::Empty { forward, backward: !forward };
+        assert_eq!(state, State { m: 0, n: 0, position: 0, end: 0, kind });
+    }
+}
+
+/// The meaning alone, without the original told again.
+#[test]
+fn wrong_walks_of_an_empty_needle_have_another_meaning() {
+    let caught = |fault| {
+        let model = Model { fault };
+        exhaustive::empty_walks().any(|case| meaning::check(&case, &model.reply(&case)).is_err())
+    };
+    assert!(!caught(Fault::None));
+    for fault in [Fault::DoneFlipsFlag, Fault::OneFlag, Fault::RejectPastEnd, Fault::EmptyRefused] {
+        assert!(caught(fault), "{fault:?}");
+    }
 }
 
 #[test]

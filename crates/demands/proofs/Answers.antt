@@ -1,6 +1,6 @@
 -- From how a search ends to what the call answers, forward and backward, over words.
 -- Assumes nothing.
-use Prim.Native.Nat.{ℕ, _+_, _<_}
+use Prim.Native.Nat.{ℕ, _+_, _-_, _<_}
 use mathlib.Core.Path.{_≡_, refl}
 use mathlib.Core.Option.{Option, none, some}
 use native.Mathlib.Omega.{arith}
@@ -41,26 +41,28 @@ module _ (x h : Word) where
   answers-greatest b a facing MirroredStop.passed l = none-none x h b a facing l
   answers-greatest b a facing MirroredStop.out l = none-none x h b a facing l
 
-  -- a step's match moves by the needle's size
+  -- a step's match moves by the needle's size; all that starts where it stands or after it is still to be given
   module _ (v : Plan) (whole : v .shift ≡ x .size) where
-    pub step-settles : (a b : ℕ) (t : Stop) → Settled v x h a b t → StepMeans x h a b (stepAnswer (endingOf m t) a b)
-    step-settles a b (Stop.Hit k) s = let here = s .0 in let there = s .1 in (here, omega arith, refl, rw here (s .2))
+    pub step-settles : (a b : ℕ) (t : Stop) → Settled v x h a b t → StepMeans x h a a b (stepAnswer (endingOf m t) a b)
+    step-settles a b (Stop.Hit k) s = let here = s .0 in let there = s .1 in (here, omega arith, refl, (omega arith, rw here (s .2)))
     step-settles a b Stop.Passed s = (refl, refl, s .0, s .1)
     step-settles a b Stop.Out s = (refl, refl, s .0, s .1)
 
     -- what is settled in the mirror, from e′ up to a′, is settled here, from a up to e
     module _ (e a e′ a′ : ℕ) (before : e + e′ ≡ n) (after : a + a′ ≡ n) where
-      rejects-back : (e′ < a′) × Skips (mirror x) (mirror h) e′ a′ → StepBackMeans x h e a (given (reject a e))
+      rejects-back : (e′ < a′) × Skips (mirror x) (mirror h) e′ a′ → StepBackMeans x h (e + 1 - m) e a (given (reject a e))
       rejects-back s =
           let less = s .0 in
           (refl, refl, omega arith, λ j lo hi o. s .1 (mirrored x h j) (omega arith) (let fits = o .fits in omega arith) (occurs-mirror x h j o))
 
-      pub step-settles-back : {t t′ : Stop} → MirroredStop m n t t′ → Settled v (mirror x) (mirror h) e′ a′ t′ → StepBackMeans x h e a (stepAnswer (endingOf m t) a e)
+      pub step-settles-back : {t t′ : Stop} → MirroredStop m n t t′ → Settled v (mirror x) (mirror h) e′ a′ t′ → StepBackMeans x h (e + 1 - m) e a (stepAnswer (endingOf m t) a e)
       step-settles-back (MirroredStop.hit {k} {k′} q) s =
           let here = s .0 in
           let there = s .1 in
           let start : k ≡ mirrored x h e′ = omega arith in
-          (omega arith, omega arith, refl, rw start (mirror-occurs x h e′ (s .2)))
+          let occurs = s .2 in
+          let inside = occurs .fits in
+          (omega arith, omega arith, refl, (omega arith, rw start (mirror-occurs x h e′ occurs)))
       step-settles-back MirroredStop.passed s = rejects-back s
       step-settles-back MirroredStop.out s = rejects-back s
 

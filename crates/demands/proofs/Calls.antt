@@ -1,19 +1,18 @@
--- What a call does to a state that fits: it is not refused, it is a search that moves its own direction's cursor, or nothing where a step answers Done,
--- and the state that it hands back fits again. This holds of every state that fits, prepared or not.
+-- What a call does to a two way state that fits: it is not refused, it is a search that moves its own direction's cursor, or nothing where a step answers Done,
+-- and the state that it hands back fits again. This holds of every such state, prepared or not.
 -- m is the needle's size and n the haystack's.
 -- Assumes nothing.
 use Prim.Native.Nat.{ℕ, _+_, _-_, _≤_}
-use mathlib.Core.Path.{_≡_, refl}
+use mathlib.Core.Path.{_≡_, refl, sym, subst}
 use mathlib.Core.Bool.{Bool, true, false, cond, _&&_}
 use mathlib.Core.List.{List}
 use mathlib.Core.Logic.{inl, inr, ⊎-elim}
 use native.Mathlib.Omega.{arith}
 use lib.Dec.{eqb}
 use lib.ListN.{length}
-use borrow.Author.Tests.{eqb-true, eqb-false, ne-eqb}
+use borrow.Author.Tests.{eqb-true, eqb-false}
 use Rattle.words.specs.Word.{front, mirror}
 use Rattle.limits.specs.declared.Check.{Check}
-use Rattle.limits.specs.Said.{refused, given}
 use Rattle.limits.proofs.Room.{haystack-room, needle-room}
 use Rattle.limits.proofs.Checks.{within-passes}
 use Rattle.byteset.specs.Fingerprint.{has}
@@ -23,20 +22,19 @@ use Rattle.windows.specs.declared.Searched.{Searched}
 use Rattle.windows.specs.Mirror.{mirroredPlan, mirrored-cursor}
 use Rattle.windows.proofs.Counts.{search-ends}
 use Rattle.windows.proofs.Mirror.{MirroredSearched, mirrored-cursor-is, search-mirrored}
+use Rattle.record.specs.declared.Kind.the-variants.{TwoWay}
 use Rattle.record.specs.declared.Fixed.{Fixed}
 use Rattle.record.specs.declared.Moving.{Moving}
 use Rattle.record.specs.Fits.{fits, fitting}
-use Rattle.record.specs.Kinds.{forwardPlan, backwardPlan, forwardCursor, backwardCursor, movedForward, movedBackward, backwardPeriodMemory}
-use Rattle.record.proofs.Fitting.{fits-forward, fits-backward}
+use Rattle.record.specs.Kinds.{flagsOf, forwardPlan, backwardPlan, forwardCursor, backwardCursor, movedForward, movedBackward, backwardPeriodMemory}
+use Rattle.record.proofs.Fitting.{two-way-some, fits-forward, fits-backward}
 use Rattle.record.proofs.Moved.{Goes, known-now, known-back-now, moved-forward, moved-backward}
 use Rattle.search.specs.declared.Ending.{Ending}
 use Rattle.search.specs.declared.Walked.{Walked}
-use Rattle.search.specs.Calls.{refusal, unmoved, endingOf, forward, backward, walkedForward, walkedBackward, forwardCall, backwardCall}
-use Rattle.searcher.specs.declared.TwoWaySearcher.{TwoWaySearcher}
-use Rattle.searcher.specs.Walk.{done, stepAnswer, matchAnswer}
+use Rattle.search.specs.Calls.{refusal, free, endingOf, forward, backward, walkedForward, walkedBackward, forwardBy, backwardBy, forwardCall, backwardCall}
+use Rattle.searcher.specs.Walk.{stepAnswer, matchAnswer}
 use Rattle.demands.specs.Allowed.{Allowed}
 use Rattle.demands.specs.Reached.{stepMatches, nextMatches}
-use Rattle.demands.specs.Stays.{Stays}
 use Rattle.demands.proofs.OneWay.{searched, hits, Remembered, searched-memory}
 
 -- ---- the answers
@@ -45,7 +43,7 @@ use Rattle.demands.proofs.OneWay.{searched, hits, Remembered, searched-
 apart : _≡_ {A = ℕ} 0 1 → ⊥
 apart e = omega arith
 
--- what a search is to a step or a next match: its matches, and no refusal
+-- what a search is to a step or a next match: its matches
 module _ (m : ℕ) where
   pub step-hits : (low high : ℕ) (t : Stop) → stepMatches (stepAnswer (endingOf m t) low high) ≡ hits t
   step-hits low high (Stop.Hit k) = refl
@@ -57,19 +55,6 @@ module _ (m : ℕ) where
   match-hits Stop.Passed = refl
   match-hits Stop.Out = refl
 
-  step-answers : (low high : ℕ) (t : Stop) (number : ℕ) → stepAnswer (endingOf m t) low high ≡ refused number → ⊥
-  step-answers low high (Stop.Hit k) number e = apart cc
-  step-answers low high Stop.Passed number e = apart cc
-  step-answers low high Stop.Out number e = apart cc
-
-  match-answers : (t : Stop) (number : ℕ) → matchAnswer (endingOf m t) ≡ refused number → ⊥
-  match-answers (Stop.Hit k) number e = apart cc
-  match-answers Stop.Passed number e = apart cc
-  match-answers Stop.Out number e = apart cc
-
-done-answers : (number : ℕ) → given done ≡ refused number → ⊥
-done-answers number e = apart cc
-
 -- a step's test whether it is Done, which a next match does not make
 by-done : {A : Type 0} (P : A → Type 0) {still more : A} (stepping : Bool) (a b : ℕ) → (stepping ≡ true → a ≡ b → P still) → ((stepping ≡ true → a ≡ b → ⊥) → P more)
     → P (cond (stepping && eqb a b) still more)
@@ -80,7 +65,12 @@ by-done P {still} {more} true a b p q = go (eqb a b) refl
     go false e = q (λ s. eqb-false a b e)
 by-done P false a b p q = q (λ s. let z : _≡_ {A = ℕ} 0 1 = cc in absurd (apart z))
 
-module _ (needle haystack : List ℕ) (ok : Allowed needle haystack) (f : Fixed) (s : Moving) (fit : fits needle haystack f s ≡ true) where
+-- no check refuses a state that fits
+pub passes : (needle haystack : List ℕ) → Allowed needle haystack → (f : Fixed) (s : Moving) → fits needle haystack f s ≡ true → refusal needle haystack f s ≡ Check.Pass
+unfolding refusal fitting
+passes needle haystack ok f s fit = rw (within-passes (length haystack) (length needle) (ok .within), fit)
+
+module _ (needle haystack : List ℕ) (ok : Allowed needle haystack) (f : Fixed) (s : Moving) (fit : fits needle haystack f s ≡ true) (two-way : s .kind ≡ TwoWay) where
   abbrev m : ℕ
   m = length needle
 
@@ -103,52 +93,50 @@ module _ (needle haystack : List ℕ) (ok : Allowed needle haystack) (f : Fixed)
   pub backward-mirrored : (stepping : Bool) → MirroredSearched m n (backward stepping needle haystack f s) (in-mirror stepping)
   unfolding backward
   backward-mirrored stepping =
-      let b = fits-backward needle haystack f s fit in
+      let b = fits-backward needle haystack f s fit two-way in
       let within = b .within in
-      search-mirrored stepping (has (f .byteset)) back-plan (front needle) (front haystack) (s .end) (n - s .end) (b .back) (omega arith) (ok .nonempty)
+      search-mirrored stepping (has (f .byteset)) back-plan (front needle) (front haystack) (s .end) (n - s .end) (b .back) (omega arith) (two-way-some needle haystack f s fit two-way)
       (omega (arith, needle-room, ok .within .needle-in)) (omega (arith, haystack-room, ok .within .haystack-in))
       (n + 1) (backwardCursor m s) (mirrored-cursor m n (backwardCursor m s)) 0 0 (mirrored-cursor-is m n (backwardCursor m s) within (b .memory))
 
   pub forward-goes : (stepping : Bool) → let r = forward stepping needle haystack f s in Goes needle haystack f s (movedForward s (r .cursor)) (r .cursor) (backwardCursor m s)
   unfolding forward
   forward-goes stepping =
-      let v = fits-forward needle haystack f s fit in
+      let v = fits-forward needle haystack f s fit two-way in
       let ends = search-ends (has (f .byteset)) plan (front needle) (front haystack) (v .shape) stepping (s .position) (n + 1) (forwardCursor s) 0 0 (v .within) in
-      moved-forward needle haystack f s fit _ (ends .1)
-      (searched-memory (has (f .byteset)) (front needle) (front haystack) stepping (forwardCursor s) (v .shape) (inl refl) (known-now needle haystack f s fit))
+      moved-forward needle haystack f s fit two-way _ (ends .1)
+      (searched-memory (has (f .byteset)) (front needle) (front haystack) stepping (forwardCursor s) (v .shape) (inl refl) (known-now needle haystack f s fit two-way))
 
   pub backward-goes : (stepping : Bool) → let r = backward stepping needle haystack f s in Goes needle haystack f s (movedBackward s (r .cursor)) (forwardCursor s) (r .cursor)
   backward-goes stepping =
-      let b = fits-backward needle haystack f s fit in
+      let b = fits-backward needle haystack f s fit two-way in
       let start = mirrored-cursor m n (backwardCursor m s) in
       let same = backward-mirrored stepping .cursors in
       let cleared : Remembered (mirroredPlan m back-plan) (mirroredPlan m back-plan .«shift_memory») = inl (omega arith) in
       let in-needle : backwardPeriodMemory m (f .period) (s .memory) ≤ m = b .back .period-memory-in in
-      let before : Remembered (mirroredPlan m back-plan) (start .memory) = ⊎-elim (λ e. inl (omega arith)) (λ e. inr (omega arith)) (known-back-now needle haystack f s fit) in
-      moved-backward needle haystack f s fit _ (omega arith)
+      let before : Remembered (mirroredPlan m back-plan) (start .memory) = ⊎-elim (λ e. inl (omega arith)) (λ e. inr (omega arith)) (known-back-now needle haystack f s fit two-way) in
+      moved-backward needle haystack f s fit two-way _ (omega arith)
       (⊎-elim (λ e. inl (omega arith)) (λ e. inr (omega arith))
       (searched-memory (has (f .byteset)) (mirror (front needle)) (mirror (front haystack)) stepping start (b .shape) cleared before))
 
   -- ---- the calls
 
-  checked : refusal needle haystack f s ≡ Check.Pass
-  unfolding refusal fitting
-  checked =
-      let some = ok .nonempty in
-      rw (within-passes n m (ok .within), ne-eqb m 0 (omega arith), fit)
-
   module _ (P : Walked → Type 0) (stepping : Bool) where
-    pub forward-cases : (stepping ≡ true → s .position ≡ n → P (unmoved Ending.Done s))
+    pub forward-cases : (stepping ≡ true → s .position ≡ n → P (free Ending.Done s))
         → ((stepping ≡ true → s .position ≡ n → ⊥) → P (walkedForward m s (forward stepping needle haystack f s)))
         → P (forwardCall stepping needle haystack f s)
     unfolding forwardCall
-    forward-cases still more = rw checked (by-done P stepping (s .position) n still more)
+    forward-cases still more =
+        rw (passes needle haystack ok f s fit)
+        (subst (λ kind. P (forwardBy (flagsOf kind) stepping needle haystack f s)) (sym two-way) (by-done P stepping (s .position) n still more))
 
-    pub backward-cases : (stepping ≡ true → s .end ≡ 0 → P (unmoved Ending.Done s))
+    pub backward-cases : (stepping ≡ true → s .end ≡ 0 → P (free Ending.Done s))
         → ((stepping ≡ true → s .end ≡ 0 → ⊥) → P (walkedBackward m s (backward stepping needle haystack f s)))
         → P (backwardCall stepping needle haystack f s)
     unfolding backwardCall
-    backward-cases still more = rw checked (by-done P stepping (s .end) 0 still more)
+    backward-cases still more =
+        rw (passes needle haystack ok f s fit)
+        (subst (λ kind. P (backwardBy (flagsOf kind) stepping needle haystack f s)) (sym two-way) (by-done P stepping (s .end) 0 still more))
 
   not-stepping : {A : Type 0} → _≡_ {A = Bool} false true → A
   not-stepping e = let z : _≡_ {A = ℕ} 0 1 = cc in absurd (apart z)
@@ -159,20 +147,3 @@ module _ (needle haystack : List ℕ) (ok : Allowed needle haystack) (f : Fixed)
 
   pub next-match-back-walked : backwardCall false needle haystack f s ≡ walkedBackward m s (backward false needle haystack f s)
   next-match-back-walked = backward-cases (λ r. r ≡ walkedBackward m s (backward false needle haystack f s)) false not-stepping (λ e. refl)
-
--- no call is refused, and the state that it hands back fits
-pub fits-stays : (needle haystack : List ℕ) → Allowed needle haystack → (s : TwoWaySearcher) → fits needle haystack (s .fixed) (s .moving) ≡ true → Stays needle haystack s
-fits-stays needle haystack ok s fit =
-    let f = s .fixed in
-    let k = s .moving in
-    let m = length needle in
-    record {
-      next = forward-cases needle haystack ok f k fit (λ r. (fits needle haystack f (r .moving) ≡ true) × ((number : ℕ) → stepAnswer (r .ending) (k .position) (r .moving .position) ≡ refused number → ⊥)) true
-          (λ _ e. (fit, done-answers))
-          (λ e. (forward-goes needle haystack ok f k fit true .fit, step-answers m _ _ (forward true needle haystack f k .stop)));
-      next-back = backward-cases needle haystack ok f k fit (λ r. (fits needle haystack f (r .moving) ≡ true) × ((number : ℕ) → stepAnswer (r .ending) (r .moving .end) (k .end) ≡ refused number → ⊥)) true
-          (λ _ e. (fit, done-answers))
-          (λ e. (backward-goes needle haystack ok f k fit true .fit, step-answers m _ _ (backward true needle haystack f k .stop)));
-      next-match = rw (next-match-walked needle haystack ok f k fit) (forward-goes needle haystack ok f k fit false .fit, match-answers m (forward false needle haystack f k .stop));
-      next-match-back = rw (next-match-back-walked needle haystack ok f k fit) (backward-goes needle haystack ok f k fit false .fit, match-answers m (backward false needle haystack f k .stop));
-    }

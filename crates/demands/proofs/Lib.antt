@@ -1,7 +1,11 @@
 pub mod OneWay
 pub mod Calls
+pub mod Turns
+pub mod Stays
 pub mod Walks
+pub mod Places
 pub mod Start
 pub mod Costs
 pub mod Answers
 pub mod Meaning
+pub mod EveryPlace

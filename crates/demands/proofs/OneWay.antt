@@ -4,11 +4,11 @@
 use Prim.Native.Nat.{ℕ, _+_, _<_, _≤_}
 use mathlib.Core.Path.{_≡_, refl, _∙_, subst}
 use mathlib.Core.Bool.{Bool, true, false}
-use mathlib.Core.List.{List, [], _∷_, _++_, append-assoc, append-nil}
+use mathlib.Core.List.{List, [], _∷_, _++_, append-assoc}
 use mathlib.Core.Logic.{_⊎_, inl, inr, ⊎-elim}
 use native.Mathlib.Omega.{arith}
 use Rattle.words.specs.Word.{Word}
-use Rattle.words.specs.Choice.{None, FindsLeast}
+use Rattle.words.specs.Choice.{FindsLeast}
 use Rattle.words.specs.Occurs.{Occurs, OccursFrom, Leftmost}
 use Rattle.windows.specs.declared.Plan.{Plan}
 use Rattle.windows.specs.declared.Cursor.{Cursor}
@@ -123,10 +123,6 @@ Settled v x h a b Stop.Passed = (a < b) × Skips x h a b
 Settled v x h a b Stop.Out = (a < b) × Skips x h a b
 
 module _ {has : ℕ → Bool} {v : Plan} {x h : Word} {gap a : ℕ} {s : Cursor} {ks : List ℕ} (i : Holds has v x h gap a s ks) where
-  -- where nothing is left, nothing was left out
-  pub holds-none : None (OccursFrom x h (s .at)) → Leftmost x h gap a ks
-  holds-none m = rw append-nil at (i .lists [] (Leftmost.over m))
-
   pub holds-next : FindsLeast (OccursFrom x h (s .at)) (place (searched has v x h false s .stop))
   holds-next = next-least (searched-means (i .guides) false s (i .sound))
 

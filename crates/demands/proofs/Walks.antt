@@ -1,4 +1,4 @@
--- Any mix of the four calls is two walks, one forward over the words and one forward over the mirrored words: neither direction changes the other's.
+-- Any mix of the four calls from a two way state on is two walks, one forward over the words and one forward over the mirrored words: neither direction changes the other's.
 -- Assumes nothing.
 use Prim.Native.Nat.{ℕ, _-_}
 use mathlib.Core.Path.{_≡_, refl, sym, _∙_, ap, subst}
@@ -16,6 +16,7 @@ use Rattle.windows.specs.declared.Stop.{Stop}
 use Rattle.windows.specs.declared.Searched.{Searched}
 use Rattle.windows.specs.Mirror.{mirroredPlan, mirrored-cursor}
 use Rattle.windows.proofs.Mirror.{MirroredCursor, MirroredStop, MirroredSearched}
+use Rattle.record.specs.declared.Kind.the-variants.{TwoWay}
 use Rattle.record.specs.declared.Moving.{Moving}
 use Rattle.record.specs.declared.Counts.{Counts}
 use Rattle.record.specs.Fits.{fits}
@@ -59,9 +60,10 @@ module _ (needle haystack : List ℕ) (s₀ : TwoWaySearcher) where
   abbrev pub Back : Cursor → Made → Type 0
   Back s = Walked set (mirroredPlan m back-plan₀) (mirror (front needle)) (mirror (front haystack)) (seen (backwardCursor m (s₀ .moving))) (seen s)
 
-  -- The two walks of a history from s₀ on. Its state fits and goes by the plans of s₀.
+  -- The two walks of a history from s₀ on. Its state fits, is a two way one and goes by the plans of s₀.
   pub record Walks (H : History) : Type 0 where
     pub fit : fits needle haystack (H .walk .fixed) (H .walk .moving) ≡ true
+    pub two-way : H .walk .moving .kind ≡ TwoWay
     pub set-is : H .walk .fixed .byteset ≡ s₀ .fixed .byteset
     pub plan : forwardPlan m (H .walk .fixed) (H .walk .moving .memory) ≡ plan₀
     pub back-plan : backwardPlan m (H .walk .fixed) (H .walk .moving .memory) ≡ back-plan₀
@@ -102,7 +104,8 @@ pub data Went (moved : Cursor → Moving) (search : Bool → Searched) (s : Movi
   went : (stepping : Bool)
       → Went moved search s (moved (search stepping .cursor)) (hits (search stepping .stop)) (walking (search stepping .comparisons) (search stepping .tests))
 
-module _ (needle haystack : List ℕ) (ok : Allowed needle haystack) (s : TwoWaySearcher) (fit : fits needle haystack (s .fixed) (s .moving) ≡ true) where
+module _ (needle haystack : List ℕ) (ok : Allowed needle haystack) (s : TwoWaySearcher) (fit : fits needle haystack (s .fixed) (s .moving) ≡ true)
+    (two-way : s .moving .kind ≡ TwoWay) where
   abbrev k : Moving
   k = s .moving
 
@@ -114,36 +117,37 @@ module _ (needle haystack : List ℕ) (ok : Allowed needle haystack) (s : TwoWay
 
   next-went : let r = nextRule needle haystack s in WentForward (r .walk .moving) (stepMatches (r .answer)) (r .counts)
   next-went =
-      forward-cases needle haystack ok (s .fixed) k fit (λ r. WentForward (r .moving) (stepMatches (stepAnswer (r .ending) (k .position) (r .moving .position))) (r .counts)) true
+      forward-cases needle haystack ok (s .fixed) k fit two-way (λ r. WentForward (r .moving) (stepMatches (stepAnswer (r .ending) (k .position) (r .moving .position))) (r .counts)) true
       (λ _ e. Went.stayed) (λ e. rw step-hits (Went.went true))
 
   next-back-went : let r = nextBackRule needle haystack s in WentBackward (r .walk .moving) (stepMatches (r .answer)) (r .counts)
   next-back-went =
-      backward-cases needle haystack ok (s .fixed) k fit (λ r. WentBackward (r .moving) (stepMatches (stepAnswer (r .ending) (r .moving .end) (k .end))) (r .counts)) true
+      backward-cases needle haystack ok (s .fixed) k fit two-way (λ r. WentBackward (r .moving) (stepMatches (stepAnswer (r .ending) (r .moving .end) (k .end))) (r .counts)) true
       (λ _ e. Went.stayed) (λ e. rw step-hits (Went.went true))
 
   next-match-went : let r = nextMatchRule needle haystack s in WentForward (r .walk .moving) (nextMatches (r .answer)) (r .counts)
-  next-match-went = rw (next-match-walked needle haystack ok (s .fixed) k fit, match-hits) (Went.went false)
+  next-match-went = rw (next-match-walked needle haystack ok (s .fixed) k fit two-way, match-hits) (Went.went false)
 
   next-match-back-went : let r = nextMatchBackRule needle haystack s in WentBackward (r .walk .moving) (nextMatches (r .answer)) (r .counts)
-  next-match-back-went = rw (next-match-back-walked needle haystack ok (s .fixed) k fit, match-hits) (Went.went false)
+  next-match-back-went = rw (next-match-back-walked needle haystack ok (s .fixed) k fit two-way, match-hits) (Went.went false)
 
 module _ (needle haystack : List ℕ) (ok : Allowed needle haystack) (s₀ : TwoWaySearcher) where
   abbrev n : ℕ
   n = length haystack
 
   walks-forward : {H : History} {s : Moving} {ks : List ℕ} {counts : Counts} (w : Walks needle haystack s₀ H)
-      → WentForward needle haystack ok (H .walk) (w .fit) s ks counts
+      → WentForward needle haystack ok (H .walk) (w .fit) (w .two-way) s ks counts
       → Walks needle haystack s₀ (record { walk = record { fixed = H .walk .fixed; moving = s }; forward = and-made (H .forward) ks counts; backward = H .backward })
   unfolding forward
   walks-forward {H} w Went.stayed = rw (and-nothing (H .forward)) w
   walks-forward {H} w (Went.went stepping) =
-      let g = forward-goes needle haystack ok (H .walk .fixed) (H .walk .moving) (w .fit) stepping in
+      let g = forward-goes needle haystack ok (H .walk .fixed) (H .walk .moving) (w .fit) (w .two-way) stepping in
       let by : (ℕ → Bool) → Plan → Searched = λ has v. searched has v (front needle) (front haystack) stepping (forwardCursor (H .walk .moving)) in
       let same : forward stepping needle haystack (H .walk .fixed) (H .walk .moving) ≡ by (set needle haystack s₀) (plan₀ needle haystack s₀) =
       ap (λ b. by (has b) (forwardPlan (length needle) (H .walk .fixed) (H .walk .moving .memory))) (w .set-is) ∙ ap (by (set needle haystack s₀)) (w .plan) in
       record {
         fit = g .fit;
+        two-way = g .kind ∙ w .two-way;
         set-is = w .set-is;
         plan = g .plan ∙ w .plan;
         back-plan = g .back-plan ∙ w .back-plan;
@@ -154,18 +158,19 @@ module _ (needle haystack : List ℕ) (ok : Allowed needle haystack) (s₀ : Two
       }
 
   walks-backward : {H : History} {s : Moving} {ks : List ℕ} {counts : Counts} (w : Walks needle haystack s₀ H)
-      → WentBackward needle haystack ok (H .walk) (w .fit) s ks counts
+      → WentBackward needle haystack ok (H .walk) (w .fit) (w .two-way) s ks counts
       → Walks needle haystack s₀ (record { walk = record { fixed = H .walk .fixed; moving = s }; forward = H .forward; backward = and-made (H .backward) ks counts })
   walks-backward {H} w Went.stayed = rw (and-nothing (H .backward)) w
   walks-backward {H} w (Went.went stepping) =
-      let g = backward-goes needle haystack ok (H .walk .fixed) (H .walk .moving) (w .fit) stepping in
+      let g = backward-goes needle haystack ok (H .walk .fixed) (H .walk .moving) (w .fit) (w .two-way) stepping in
       let r = backward stepping needle haystack (H .walk .fixed) (H .walk .moving) in
       let by : (ℕ → Bool) → Plan → Searched = λ has v. searched has (mirroredPlan (length needle) v) (mirror (front needle)) (mirror (front haystack)) stepping (seen needle haystack s₀ (backwardCursor (length needle) (H .walk .moving))) in
-      let t₁ = subst (λ b. MirroredSearched (length needle) n r (by (has b) (backwardPlan (length needle) (H .walk .fixed) (H .walk .moving .memory)))) (w .set-is) (backward-mirrored needle haystack ok (H .walk .fixed) (H .walk .moving) (w .fit) stepping) in
+      let t₁ = subst (λ b. MirroredSearched (length needle) n r (by (has b) (backwardPlan (length needle) (H .walk .fixed) (H .walk .moving .memory)))) (w .set-is) (backward-mirrored needle haystack ok (H .walk .fixed) (H .walk .moving) (w .fit) (w .two-way) stepping) in
       let t = subst (λ v. MirroredSearched (length needle) n r (by (set needle haystack s₀) v)) (w .back-plan) t₁ in
       let there = ap (seen needle haystack s₀) (g .back-cursor) ∙ cursor-mirrored (t .cursors) in
       record {
         fit = g .fit;
+        two-way = g .kind ∙ w .two-way;
         set-is = w .set-is;
         plan = g .plan ∙ w .plan;
         back-plan = g .back-plan ∙ w .back-plan;
@@ -177,16 +182,17 @@ module _ (needle haystack : List ℕ) (ok : Allowed needle haystack) (s₀ : Two
 
   walks-call : (call : Call) {H : History} → Walks needle haystack s₀ H → Walks needle haystack s₀ (called needle haystack call H)
   unfolding called
-  walks-call Call.next {H} w = walks-forward w (next-went needle haystack ok (H .walk) (w .fit))
-  walks-call Call.next-back {H} w = walks-backward w (next-back-went needle haystack ok (H .walk) (w .fit))
-  walks-call Call.next-match {H} w = walks-forward w (next-match-went needle haystack ok (H .walk) (w .fit))
-  walks-call Call.next-match-back {H} w = walks-backward w (next-match-back-went needle haystack ok (H .walk) (w .fit))
+  walks-call Call.next {H} w = walks-forward w (next-went needle haystack ok (H .walk) (w .fit) (w .two-way))
+  walks-call Call.next-back {H} w = walks-backward w (next-back-went needle haystack ok (H .walk) (w .fit) (w .two-way))
+  walks-call Call.next-match {H} w = walks-forward w (next-match-went needle haystack ok (H .walk) (w .fit) (w .two-way))
+  walks-call Call.next-match-back {H} w = walks-backward w (next-match-back-went needle haystack ok (H .walk) (w .fit) (w .two-way))
 
-  pub walks : fits needle haystack (s₀ .fixed) (s₀ .moving) ≡ true → (calls : List Call) → Walks needle haystack s₀ (after needle haystack s₀ calls)
+  pub walks : fits needle haystack (s₀ .fixed) (s₀ .moving) ≡ true → s₀ .moving .kind ≡ TwoWay → (calls : List Call) → Walks needle haystack s₀ (after needle haystack s₀ calls)
   unfolding after
-  walks fit [] =
+  walks fit two-way [] =
       record {
         fit = fit;
+        two-way = two-way;
         set-is = refl;
         plan = refl;
         back-plan = refl;
@@ -195,4 +201,4 @@ module _ (needle haystack : List ℕ) (ok : Allowed needle haystack) (s₀ : Two
         mirrors = record { matches-are = refl; comparisons-are = refl; tests-are = refl };
         back = Walked.begun;
       }
-  walks fit (call ∷ earlier) = walks-call call (walks fit earlier)
+  walks fit two-way (call ∷ earlier) = walks-call call (walks fit two-way earlier)

@@ -1,5 +1,6 @@
 pub mod Allowed
 pub mod Reached
 pub mod Stays
+pub mod Open
 pub mod Means
 pub mod Costs

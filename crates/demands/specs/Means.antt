@@ -1,9 +1,9 @@
 -- Demand 2: what the answers and the matches of a walk mean, in the haystack's own places.
 -- Assumes nothing.
-use Prim.Native.Nat.{ℕ, _+_, _-_, _<_, _≤_}
+use Prim.Native.Nat.{ℕ, zero, suc, _+_, _-_, _<_, _≤_, max}
 use mathlib.Core.Path.{_≡_}
 use mathlib.Core.Logic.{_⊎_}
-use mathlib.Core.List.{List, _++_}
+use mathlib.Core.List.{List, [], _∷_, _++_}
 use mathlib.Core.Option.{Option, none, some}
 use lib.ListN.{length}
 use Rattle.words.specs.Word.{Word, front}
@@ -11,6 +11,7 @@ use Rattle.words.specs.Choice.{Least, Greatest, None}
 use Rattle.words.specs.Occurs.{Occurs, OccursFrom, OccursBelow, Leftmost, Rightmost}
 use Rattle.limits.specs.Said.{Said, refused, given}
 use Rattle.searcher.specs.Walk.{StepTerm, match, reject, done, newRule, nextRule, nextBackRule, nextMatchRule, nextMatchBackRule}
+use Rattle.demands.specs.Open.{openFrom, openBelow}
 use Rattle.demands.specs.Reached.{Call, History, reached}
 
 -- ---- an answer, for a needle x and a haystack h
@@ -27,32 +28,30 @@ AnswersGreatest P m (given (some (k, e))) = Greatest P k × (e ≡ k + m)
 AnswersGreatest P m (given none) = None P
 AnswersGreatest P m (refused number) = ⊥
 
--- A step forward, with `position` before and after it. It settles the part between the two, so the parts of steps in a row cover the haystack
--- (the Rejects of steps cover what lies between their matches): a Match is the whole part, in a Reject no occurrence starts, and at Done nothing is left.
-abbrev pub StepMeans : Word → Word → ℕ → ℕ → Said StepTerm → Type 0
-StepMeans x h before after (given (match a e)) = (a ≡ before) × (e ≡ after) × (e ≡ a + x .size) × Occurs x h a
-StepMeans x h before after (given (reject a e)) =
-    (a ≡ before) × (e ≡ after) × (a < e) × ((j : ℕ) → a ≤ j → j < e → Occurs x h j → ⊥)
-StepMeans x h before after (given done) = (before ≡ h .size) × (after ≡ before)
-StepMeans x h before after (refused number) = ⊥
+-- A step forward, with `position` before and after it, and the places from `from` on still to be given. It settles the part between the two,
+-- so the parts of steps in a row cover the haystack (the Rejects of steps cover what lies between their matches): a Match is the whole part,
+-- in a Reject no occurrence starts that is still to be given, and at Done none is left.
+abbrev pub StepMeans : Word → Word → ℕ → ℕ → ℕ → Said StepTerm → Type 0
+StepMeans x h from before after (given (match a e)) = (a ≡ before) × (e ≡ after) × (e ≡ a + x .size) × OccursFrom x h from a
+StepMeans x h from before after (given (reject a e)) =
+    (a ≡ before) × (e ≡ after) × (a < e) × ((j : ℕ) → from ≤ j → j < e → Occurs x h j → ⊥)
+StepMeans x h from before after (given done) = (before ≡ h .size) × (after ≡ before) × None (OccursFrom x h from)
+StepMeans x h from before after (refused number) = ⊥
 
--- A step backward, with `end` before and after it: in a Reject no occurrence ends.
-abbrev pub StepBackMeans : Word → Word → ℕ → ℕ → Said StepTerm → Type 0
-StepBackMeans x h before after (given (match a e)) = (e ≡ before) × (a ≡ after) × (e ≡ a + x .size) × Occurs x h a
-StepBackMeans x h before after (given (reject a e)) =
-    (e ≡ before) × (a ≡ after) × (a < e) × ((j : ℕ) → a < j + x .size → j + x .size ≤ e → Occurs x h j → ⊥)
-StepBackMeans x h before after (given done) = (before ≡ 0) × (after ≡ before)
-StepBackMeans x h before after (refused number) = ⊥
+-- A step backward, with `end` before and after it, and the places below `below` still to be given: in a Reject none of these ends.
+abbrev pub StepBackMeans : Word → Word → ℕ → ℕ → ℕ → Said StepTerm → Type 0
+StepBackMeans x h below before after (given (match a e)) = (e ≡ before) × (a ≡ after) × (e ≡ a + x .size) × OccursBelow x h below a
+StepBackMeans x h below before after (given (reject a e)) =
+    (e ≡ before) × (a ≡ after) × (a < e) × ((j : ℕ) → a < j + x .size → j < below → Occurs x h j → ⊥)
+StepBackMeans x h below before after (given done) = (before ≡ 0) × (after ≡ before) × None (OccursBelow x h below)
+StepBackMeans x h below before after (refused number) = ⊥
 
 -- ---- a history of calls
 
--- the matches that a walk lists start at least so far apart: by the needle's size, so that they do not overlap
+-- the matches that a walk lists start at least so far apart: by the needle's size, so that they do not overlap; those of an empty needle by 1,
+-- so that each place is listed once
 abbrev pub gapOf : List ℕ → ℕ
-gapOf needle = length needle
-
--- an occurrence that ends at `end` or before it starts below this
-abbrev pub startsBelow : Word → ℕ → ℕ
-startsBelow x end = end + 1 - x .size
+gapOf needle = max 1 (length needle)
 
 module _ (needle haystack : List ℕ) (H : History) where
   abbrev x : Word
@@ -61,28 +60,35 @@ module _ (needle haystack : List ℕ) (H : History) where
   abbrev h : Word
   h = front haystack
 
-  -- a next match gives the least occurrence from `position` on, and nothing exactly if there is none
+  -- the places that are still open to each direction: `position` and those after it, but for the one that an empty walk has given
+  abbrev from : ℕ
+  from = openFrom (H .walk .moving)
+
+  abbrev below : ℕ
+  below = openBelow (x .size) (H .walk .moving)
+
+  -- a next match gives the least occurrence that is still to be given, and nothing exactly if there is none
   abbrev pub NextMatchMeans : Type 0
-  NextMatchMeans = AnswersLeast (OccursFrom x h (H .walk .moving .position)) (x .size) (nextMatchRule needle haystack (H .walk) .answer)
+  NextMatchMeans = AnswersLeast (OccursFrom x h from) (x .size) (nextMatchRule needle haystack (H .walk) .answer)
 
   -- a step settles what lies between `position` before and after it
   abbrev pub NextMeans : Type 0
-  NextMeans = let r = nextRule needle haystack (H .walk) in StepMeans x h (H .walk .moving .position) (r .walk .moving .position) (r .answer)
+  NextMeans = let r = nextRule needle haystack (H .walk) in StepMeans x h from (H .walk .moving .position) (r .walk .moving .position) (r .answer)
 
   -- the same backward, from the haystack's end down to `end`
   abbrev pub NextMatchBackMeans : Type 0
-  NextMatchBackMeans = AnswersGreatest (OccursBelow x h (startsBelow x (H .walk .moving .end))) (x .size) (nextMatchBackRule needle haystack (H .walk) .answer)
+  NextMatchBackMeans = AnswersGreatest (OccursBelow x h below) (x .size) (nextMatchBackRule needle haystack (H .walk) .answer)
 
   abbrev pub NextBackMeans : Type 0
-  NextBackMeans = let r = nextBackRule needle haystack (H .walk) in StepBackMeans x h (H .walk .moving .end) (r .walk .moving .end) (r .answer)
+  NextBackMeans = let r = nextBackRule needle haystack (H .walk) in StepBackMeans x h below (H .walk .moving .end) (r .walk .moving .end) (r .answer)
 
   -- ---- the matches, as lists at a gap
 
   module _ (gap : ℕ) where
-    -- The forward matches are the greedy leftmost occurrences, each once and none left out before `position`:
-    -- with the greedy list from there on they are the one from 0 on.
+    -- The forward matches are the greedy leftmost occurrences, each once and none left out before the places still open:
+    -- with the greedy list of these they are the one from 0 on.
     abbrev pub ForwardList : Type 0
-    ForwardList = (ks : List ℕ) → Leftmost x h gap (H .walk .moving .position) ks → Leftmost x h gap 0 (H .forward .matches ++ ks)
+    ForwardList = (ks : List ℕ) → Leftmost x h gap from ks → Leftmost x h gap 0 (H .forward .matches ++ ks)
 
     -- once a next match has nothing to give, or a step is Done, they are the whole list
     abbrev pub ForwardNone : Type 0
@@ -92,7 +98,7 @@ module _ (needle haystack : List ℕ) (H : History) where
 
     -- the same backward: the greedy rightmost ones
     abbrev pub BackwardList : Type 0
-    BackwardList = (ks : List ℕ) → Rightmost x h gap (startsBelow x (H .walk .moving .end)) ks → Rightmost x h gap (h .size + 1) (H .backward .matches ++ ks)
+    BackwardList = (ks : List ℕ) → Rightmost x h gap below ks → Rightmost x h gap (h .size + 1) (H .backward .matches ++ ks)
 
     abbrev pub BackwardNone : Type 0
     BackwardNone =
@@ -123,3 +129,20 @@ pub record Demand2 (needle haystack : List ℕ) (calls : List Call) : Type 0 whe
   pub step-back-means : NextBackMeans needle haystack (reached needle haystack calls)
   pub find-least : FirstMatchLeast needle haystack
   pub rfind-greatest : LastMatchGreatest needle haystack
+
+-- ---- an empty needle, which stands at every place from 0 to n
+
+-- so many numbers from a on, and those below b from the greatest down
+unfoldable pub rising : ℕ → ℕ → List ℕ
+rising zero a = []
+rising (suc k) a = a ∷ rising k (a + 1)
+
+unfoldable pub falling : ℕ → List ℕ
+falling zero = []
+falling (suc b) = b ∷ falling b
+
+-- The forward matches are 0, 1, 2 .. and the backward ones n, n-1 .., up to the places still open, and with these they are all.
+pub record EveryPlace (needle haystack : List ℕ) (calls : List Call) : Type 0 where
+  pub forward : let a = openFrom (reached needle haystack calls .walk .moving) in
+      reached needle haystack calls .forward .matches ++ rising (length haystack + 1 - a) a ≡ rising (length haystack + 1) 0
+  pub backward : reached needle haystack calls .backward .matches ++ falling (openBelow (length needle) (reached needle haystack calls .walk .moving)) ≡ falling (length haystack + 1)

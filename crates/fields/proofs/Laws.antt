@@ -14,18 +14,18 @@ use borrow.Author.Tests.{lt-ltb, le-ltb, le-leb, lt-leb, eq-eqb, ne-eqb}
 use Rattle.lines.specs.Reading.{skipped}
 use Rattle.lines.specs.declared.Cursor.{Cursor}
 use Rattle.lines.specs.declared.Cursor.the-variants.{At, Lost}
-use Rattle.fields.specs.Fields.{orderAt, digitOf, takes, numbered, numberFrom, numberAt, setFrom, setAt, hasByte, byteAt, bytesFrom, wordBytes, wordAt, ReadsWord}
+use Rattle.fields.specs.Fields.{flagAt, digitOf, takes, numbered, numberFrom, numberAt, setFrom, setAt, hasByte, byteAt, bytesFrom, wordBytes, wordAt, ReadsWord}
 use Rattle.fields.specs.declared.Number.{Number}
 use Rattle.fields.specs.declared.Set.{Set}
 
 module _ (s : List ℕ) (c zero : Cursor) (first : zero ≡ skipped s c 48) where
-  pub order-zero : (k : ℕ) → zero ≡ At k → record { greater = false; next = zero } ≡ orderAt s c
-  unfolding orderAt
-  order-zero k e = rw (← first, e)
+  pub flag-zero : (k : ℕ) → zero ≡ At k → record { set = false; next = zero } ≡ flagAt s c
+  unfolding flagAt
+  flag-zero k e = rw (← first, e)
 
-  pub order-one : (one : Cursor) → zero ≡ Lost → one ≡ skipped s c 49 → record { greater = true; next = one } ≡ orderAt s c
-  unfolding orderAt
-  order-one one e second = rw (← first, e, second)
+  pub flag-one : (one : Cursor) → zero ≡ Lost → one ≡ skipped s c 49 → record { set = true; next = one } ≡ flagAt s c
+  unfolding flagAt
+  flag-one one e second = rw (← first, e, second)
 
 -- the value of a digit, and of a byte that is none
 module _ (x : ℕ) where

@@ -7,7 +7,7 @@ use Rattle.words.specs.Examples.{Example, same, all-as-stated}
 use Rattle.lines.specs.Examples.{line, answer, place}
 use Rattle.lines.specs.Reading.{skipped}
 use Rattle.lines.specs.declared.Cursor.the-variants.{At}
-use Rattle.fields.specs.Fields.{orderAt, digitOf, takes, numberFrom, numberAt, setFrom, setAt, hasByte, byteAt, bytesFrom, wordBytes, wordAt}
+use Rattle.fields.specs.Fields.{flagAt, digitOf, takes, numberFrom, numberAt, setFrom, setAt, hasByte, byteAt, bytesFrom, wordBytes, wordAt}
 
 -- `00000000000000ff`
 abbrev pub digits : List ℕ
@@ -16,8 +16,8 @@ digits = 48 ∷ 48 ∷ 48 ∷ 48 ∷ 48 ∷ 48 ∷ 48 ∷ 48 ∷ 48 ∷ 48 ∷ 4
 -- the line is `-:1 27 0f`
 abbrev pub table : List Example
 table =
-    -- the order at 2 is a 1; the number at 4 is 27, and there is none at 3; the set of the 16 digits is 255
-    record { computed = answer (orderAt line (At 2) .greater) ∷ place (orderAt line (At 2) .next); stated = 1 ∷ 3 ∷ [] }
+    -- the flag at 2 is a 1; the number at 4 is 27, and there is none at 3; the set of the 16 digits is 255
+    record { computed = answer (flagAt line (At 2) .set) ∷ place (flagAt line (At 2) .next); stated = 1 ∷ 3 ∷ [] }
     ∷ record { computed = numberAt line (At 4) .value ∷ place (numberAt line (At 4) .next); stated = 27 ∷ 6 ∷ [] }
     ∷ record { computed = place (numberAt line (At 3) .next); stated = [] }
     ∷ record { computed = setAt digits (At 0) .value ∷ place (setAt digits (At 0) .next); stated = 255 ∷ 16 ∷ [] }
@@ -29,5 +29,5 @@ table =
     ∷ []
 
 pub examples : T (all-as-stated table)
-unfolding all-as-stated same skipped orderAt digitOf takes numberFrom numberAt setFrom setAt hasByte byteAt bytesFrom wordBytes wordAt
+unfolding all-as-stated same skipped flagAt digitOf takes numberFrom numberAt setFrom setAt hasByte byteAt bytesFrom wordBytes wordAt
 examples = tt

@@ -10,19 +10,19 @@ use lib.Seq.{sets}
 use Rattle.lines.specs.Reading.{skipped}
 use Rattle.lines.specs.declared.Cursor.{Cursor}
 use Rattle.lines.specs.declared.Cursor.the-variants.{At, Lost}
+use Rattle.fields.specs.declared.Flag.{Flag}
 use Rattle.fields.specs.declared.Number.{Number}
-use Rattle.fields.specs.declared.Order.{Order}
 use Rattle.fields.specs.declared.Set.{Set}
 use Rattle.fields.specs.declared.Word.{Word}
 
--- the order that is read: `greater` is false where there is a cursor behind a 0; else it is true, with the cursor behind a 1
-abbrev pub orderOf : Cursor → Cursor → Order
-orderOf (At k) one = record { greater = false; next = At k }
-orderOf Lost one = record { greater = true; next = one }
+-- the flag that is read: it is not set where there is a cursor behind a 0; else it is set, with the cursor behind a 1
+abbrev pub flagOf : Cursor → Cursor → Flag
+flagOf (At k) one = record { set = false; next = At k }
+flagOf Lost one = record { set = true; next = one }
 
--- the order at the cursor: 0 or 1, which are 48 and 49 in the line
-unfoldable pub orderAt : List ℕ → Cursor → Order
-orderAt s c = orderOf (skipped s c 48) (skipped s c 49)
+-- the flag at the cursor: 0 or 1, which are 48 and 49 in the line
+unfoldable pub flagAt : List ℕ → Cursor → Flag
+flagAt s c = flagOf (skipped s c 48) (skipped s c 49)
 
 -- the value of a hex digit, 0 to 9 (48 to 57) or a to f (97 to 102); 16 for a byte that is none
 unfoldable pub digitOf : ℕ → ℕ

@@ -1,4 +1,4 @@
-// Reading the fields of a case line: an order, a number behind its mark, a set, a word. A reader takes what it can and stops. What stands
+// Reading the fields of a case line: a flag, a number behind its mark, a set, a word. A reader takes what it can and stops. What stands
 // behind it, a space, a colon or the end, is the next one's to ask: there a field is refused that is too long, or that breaks off.
 use lines::Cursor;
 ghost use mathlib.Core.Path.{_≡_};
@@ -6,7 +6,7 @@ ghost use Prim.Native.Nat.{_+_, _≤_};
 ghost use mathlib.Core.Bool.{cond};
 ghost use lib.ListN.{length};
 ghost use Rattle.lines.specs.Reading.{skipped};
-ghost use Rattle.fields.specs.Fields.{orderAt, digitOf, numberAt, setAt, hasByte, byteAt, ReadsWord};
+ghost use Rattle.fields.specs.Fields.{flagAt, digitOf, numberAt, setAt, hasByte, byteAt, ReadsWord};
 
 // What a reader read, and where the next one starts. Where that is nowhere, nothing was read.
 pub struct Number {
@@ -14,8 +14,8 @@ pub struct Number {
     pub next: Cursor,
 }
 
-pub struct Order {
-    pub greater: bool,
+pub struct Flag {
+    pub set: bool,
     pub next: Cursor,
 }
 
@@ -50,19 +50,19 @@ fn digit(b: u8) -> u8
     }
 }
 
-// Reads 0 or 1.
-pub fn read_order(s: &[u8], c: Cursor) -> Order
-    ensures rule { λ r. ⌜ r ≡ orderAt (now (s .entry)) c ⌝ }
+// Reads the one digit 0 or 1.
+pub fn read_flag(s: &[u8], c: Cursor) -> Flag
+    ensures rule { λ r. ⌜ r ≡ flagAt (now (s .entry)) c ⌝ }
 {
     let zero = lines::skip(s, c, b'0');
     if let Cursor::At(_) = zero {
-        return Order {
-            greater: false,
+        return Flag {
+            set: false,
             next: zero,
         };
     }
-    Order {
-        greater: true,
+    Flag {
+        set: true,
         next: lines::skip(s, c, b'1'),
     }
 }

@@ -4,11 +4,11 @@ use Prim.Native.Nat.{ℕ, _<_, _≤_}
 use mathlib.Core.Path.{_≡_}
 use mathlib.Core.Logic.{_⊎_}
 use mathlib.Core.Bool.{Bool, cond}
-use lib.Dec.{ltb, eqb}
+use lib.Dec.{ltb}
 use Rattle.limits.specs.Bounds.{haystackBound, needleBound}
 use Rattle.limits.specs.declared.Check.{Check}
 use Rattle.limits.specs.declared.Refusal.{Refusal}
-use Rattle.limits.specs.declared.Refusal.the-variants.{HaystackTooLong, NeedleTooLong, EmptyNeedle}
+use Rattle.limits.specs.declared.Refusal.the-variants.{HaystackTooLong, NeedleTooLong}
 
 -- one check: it refuses where its test says so
 abbrev pub refuseIf : Bool → Refusal → Check
@@ -22,10 +22,6 @@ andThen (Check.Refuse why) next = Check.Refuse why
 -- "Checks run in the order 1, 2, 3, 4": the first two, of a haystack of n bytes and a needle of m
 unfoldable pub lengths : ℕ → ℕ → Check
 lengths n m = andThen (refuseIf (ltb haystackBound n) HaystackTooLong) (refuseIf (ltb needleBound m) NeedleTooLong)
-
--- "preparing or walking with an empty needle": check 3, of a needle of m bytes
-abbrev pub nonempty : ℕ → Check
-nonempty m = refuseIf (eqb m 0) EmptyNeedle
 
 -- both lengths are within their bounds
 pub record Within (n m : ℕ) : Type 0 where

@@ -6,7 +6,7 @@ use lib.Dec.{T}
 use Rattle.words.specs.Examples.{Example, same, all-as-stated}
 use Rattle.limits.specs.Bounds.{haystackBound, needleBound}
 use Rattle.limits.specs.Refusals.{numberOf}
-use Rattle.limits.specs.Checks.{andThen, lengths, nonempty}
+use Rattle.limits.specs.Checks.{lengths}
 use Rattle.limits.specs.declared.Check.{Check}
 
 -- a refusal is written by its number, and 0 says that nothing refuses
@@ -20,9 +20,8 @@ table =
     record { computed = answer (lengths 10 65_536) ∷ answer (lengths 10 65_537) ∷ []; stated = 0 ∷ 2 ∷ [] }
     -- "a haystack of 67,108,864 searched, one more refused 1, also when the needle is too long"
     ∷ record { computed = answer (lengths 67_108_864 10) ∷ answer (lengths 67_108_865 10) ∷ answer (lengths 67_108_865 65_537) ∷ []; stated = 0 ∷ 1 ∷ 1 ∷ [] }
-    -- an empty needle is refused 3, and only where the lengths pass
-    ∷ record { computed = answer (andThen (lengths 10 0) (nonempty 0)) ∷ answer (andThen (lengths 67_108_865 0) (nonempty 0)) ∷ []; stated = 3 ∷ 1 ∷ [] }
-    ∷ record { computed = answer (nonempty 1) ∷ []; stated = 0 ∷ [] }
+    -- an empty needle is refused for its haystack's length alone
+    ∷ record { computed = answer (lengths 67_108_864 0) ∷ answer (lengths 67_108_865 0) ∷ []; stated = 0 ∷ 1 ∷ [] }
     ∷ []
 
 pub examples : T (all-as-stated table)

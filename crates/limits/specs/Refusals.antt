@@ -4,7 +4,8 @@ use Prim.Native.Nat.{ℕ}
 use Rattle.limits.specs.declared.Refusal.{Refusal}
 use Rattle.limits.specs.declared.Refusal.the-variants.{HaystackTooLong, NeedleTooLong, EmptyNeedle, StateDoesNotFit}
 
--- 1: the haystack is over its bound. 2: the needle is over its bound. 3: preparing or walking with an empty needle. 4: a handed-in state doesn't fit.
+-- 1: the haystack is over its bound. 2: the needle is over its bound. 4: a handed-in state doesn't fit.
+-- 3 was "preparing or walking with an empty needle": "Preparing and walking no longer give refusal 3" (02 [1]), and no call gives it now.
 abbrev pub numberOf : Refusal → ℕ
 numberOf HaystackTooLong = 1
 numberOf NeedleTooLong = 2

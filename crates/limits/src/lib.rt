@@ -9,7 +9,7 @@ pub const HAYSTACK_BOUND: usize = 67_108_864;
 
 pub const NEEDLE_BOUND: usize = 65_536;
 
-// Why a public call refuses. Nothing else is refused.
+// Why a public call refuses. Nothing else is refused. No call refuses an empty needle now; the number stays, for a call to come.
 pub enum Refusal {
     HaystackTooLong,
     NeedleTooLong,

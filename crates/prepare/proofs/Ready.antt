@@ -9,7 +9,7 @@ use mathlib.Core.List.{List}
 use mathlib.Core.Option.{some}
 use native.Mathlib.Omega.{arith}
 use native.Mathlib.Decide.{decLt}
-use lib.Dec.{ltb}
+use lib.Dec.{ltb, eqb}
 use lib.ListN.{length}
 use borrow.Author.Tests.{ltb-true, ltb-false}
 use Rattle.words.specs.Word.{Word, front, back, mirror}
@@ -19,6 +19,7 @@ use Rattle.words.specs.Critical.{LaterStart}
 use Rattle.words.proofs.Decided.{smallestPeriod-is}
 use Rattle.words.proofs.Mirror.{period-mirror}
 use Rattle.words.proofs.Critical.{later-start, split-below, smallest-mirror}
+use Rattle.limits.specs.Checks.{lengths}
 use Rattle.limits.specs.Said.{Said, refused, given, LosesNothing}
 use Rattle.limits.proofs.Said.{by-way-back, refusalOf, refusal-again}
 use Rattle.limits.specs.declared.Check.{Check}
@@ -26,11 +27,12 @@ use Rattle.limits.specs.declared.Refusal.{Refusal}
 use Rattle.suffix.specs.Rounds.{rounds}
 use Rattle.suffix.proofs.Maximal.{known-found}
 use Rattle.record.specs.Fits.{fits}
+use Rattle.record.specs.declared.Kind.the-variants.{TwoWay}
 use Rattle.prepare.specs.declared.Preparation.{Preparation}
-use Rattle.prepare.specs.Prepare.{preparationSaid, PartsTold, chosen, agreed, forwardRounds, prepareShort, prepareLong, fiveSteps, refuse, checks, orParts, prepareRule, NoState}
+use Rattle.prepare.specs.Prepare.{preparationSaid, PartsTold, chosen, agreed, forwardRounds, prepareShort, prepareLong, fiveSteps, emptyWalk, refuse, orParts, prepareRule, NoState}
 use Rattle.record.specs.Kinds.{forwardCursor, backwardCursor}
 use Rattle.prepare.proofs.Chosen.{chosen-split, chosen-fits, chosen-short, chosen-long, forward-few, reverse-few}
-use Rattle.record.proofs.Fitting.{StateFits, decides-fits}
+use Rattle.record.proofs.Fitting.{StateFits, decides-fits, two-way-splits}
 
 -- ---- the two kinds
 
@@ -147,7 +149,7 @@ module _ (needle : List ℕ) (pos : 0 < length needle) where
         haystack-is = refl;
         position-in = omega arith;
         end-in = omega arith;
-        splits = record {
+        kind-fits = record {
           ahead = ahead;
           period-in = within;
           back-ahead = omega arith;
@@ -156,6 +158,11 @@ module _ (needle : List ℕ) (pos : 0 < length needle) where
           backward-is = inl refl;
         };
       }))
+
+  -- and is a two way one
+  pub prepared-two-way : (n : ℕ) → fiveSteps needle n .moving .kind ≡ TwoWay
+  unfolding prepareShort prepareLong
+  prepared-two-way n = by-kind needle n (λ r. r .moving .kind ≡ TwoWay) pos (λ k. refl) (λ k. refl)
 
   -- Four passes of at most 2m rounds each, and at most c pairs, which is below m.
   pub preparing-few : (n : ℕ) → fiveSteps needle n .counts .preparing ≤ 9 * length needle
@@ -169,14 +176,14 @@ module _ (needle : List ℕ) (pos : 0 < length needle) where
 
 -- ---- what is handed back where nothing is prepared
 
--- Long's split is at least 1, so this record fits no needle, the empty one included.
+-- It is a two way one, and Long's split is at least 1: so this record fits no needle, the empty one included.
 refuse-fits-nothing : (why : Refusal) (needle haystack : List ℕ) → fits needle haystack (refuse why .fixed) (refuse why .moving) ≡ false
 refuse-fits-nothing why needle haystack = go _ refl
   where
     go : (b : Bool) → fits needle haystack (refuse why .fixed) (refuse why .moving) ≡ b → b ≡ false
     go false e = refl
     go true e =
-        let k = decides-fits needle haystack (refuse why .fixed) (refuse why .moving) .sound e in
+        let k = two-way-splits needle haystack (refuse why .fixed) (refuse why .moving) e refl in
         absurd (omega arith)
 
 -- what the five steps give is not refused
@@ -190,11 +197,12 @@ prepared-ready needle n = go (ltb (agreed needle (chosen needle .start) (chosen 
 
 pub refused-fits-nothing : (needle : List ℕ) (n : ℕ) → NoState (prepareRule needle n)
 unfolding prepareRule
-refused-fits-nothing needle n = go (checks (length needle) n)
+refused-fits-nothing needle n = go (lengths n (length needle)) (eqb (length needle) 0)
   where
-    go : (c : Check) → NoState (orParts c (fiveSteps needle n))
-    go Check.Pass number e = let q = prepared-ready needle n in let z : _≡_ {A = ℕ} 0 1 = cc in absurd (omega arith)
-    go (Check.Refuse why) number e = refuse-fits-nothing why
+    go : (c : Check) (b : Bool) → NoState (orParts c (cond b (emptyWalk n) (fiveSteps needle n)))
+    go Check.Pass true number e = let z : _≡_ {A = ℕ} 0 1 = cc in absurd (omega arith)
+    go Check.Pass false number e = let q = prepared-ready needle n in let z : _≡_ {A = ℕ} 0 1 = cc in absurd (omega arith)
+    go (Check.Refuse why) b number e = refuse-fits-nothing why
 
 -- ---- what preparing answers says loses nothing
 

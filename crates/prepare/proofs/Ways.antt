@@ -1,7 +1,7 @@
 -- What each return of the functions that prepare has to show.
 -- Assumes nothing.
 use Prim.Native.Nat.{ℕ, _+_, _-_, _*_, _<_, _≤_, min, max}
-use mathlib.Core.Path.{_≡_, refl, sym, _∙_, ap, subst}
+use mathlib.Core.Path.{_≡_, sym, _∙_, ap, subst}
 use mathlib.Core.Bool.{Bool, true, false}
 use mathlib.Core.List.{List}
 use mathlib.Core.Option.{none, some}
@@ -9,19 +9,17 @@ use native.Mathlib.Nat.{sub-zero, add-sub-cancel-left}
 use native.Mathlib.Omega.{arith}
 use mir.Syntax.{w64}
 use mir.Val.{Fits}
-use lib.Dec.{eqb}
 use lib.ListN.{length, take, drop}
-use borrow.Author.Tests.{lt-ltb, le-ltb, eq-eqb, ne-eqb, eqb-false}
+use borrow.Author.Tests.{lt-ltb, le-ltb, eq-eqb, ne-eqb}
 use Rattle.words.specs.Word.{front, back}
 use Rattle.words.specs.Period.{Period}
 use Rattle.words.proofs.Mirror.{period-mirror}
 use Rattle.words.proofs.Critical.{part-fits}
 use Rattle.limits.specs.Bounds.{needleBound}
-use Rattle.limits.specs.Checks.{lengths, andThen, refuseIf}
+use Rattle.limits.specs.Checks.{lengths}
 use Rattle.limits.specs.Said.{given}
 use Rattle.limits.specs.declared.Check.{Check}
 use Rattle.limits.specs.declared.Refusal.{Refusal}
-use Rattle.limits.specs.declared.Refusal.the-variants.{EmptyNeedle}
 use Rattle.limits.proofs.Room.{needle-room}
 use Rattle.limits.proofs.Checks.{lengths-pass}
 use Rattle.byteset.specs.Fingerprint.{fingerprint}
@@ -34,7 +32,8 @@ use Rattle.suffix.specs.declared.SuffixAnswer.{SuffixAnswer}
 use Rattle.suffix.specs.declared.ReverseAnswer.{ReverseAnswer}
 use Rattle.suffix.proofs.Maximal.{plain-found, known-found}
 use Rattle.record.specs.declared.Memory.the-variants.{Long, Short}
-use Rattle.prepare.specs.Prepare.{PartsTold, toReverse, chosen, choice, forwardRounds, reverseRounds, agreed, prepareShort, prepareLong, ready, fiveSteps, refuse, checks, prepareRule, NoState}
+use Rattle.record.specs.declared.Kind.the-variants.{TwoWay}
+use Rattle.prepare.specs.Prepare.{PartsTold, toReverse, chosen, choice, forwardRounds, reverseRounds, agreed, prepareShort, prepareLong, ready, fiveSteps, emptyWalk, refuse, prepareRule, NoState}
 use Rattle.prepare.proofs.Chosen.{forward-few, reverse-few, chosen-short}
 use Rattle.prepare.proofs.Ready.{refused-fits-nothing}
 
@@ -122,6 +121,7 @@ module _ (needle : List ℕ) (p : ℕ) {lower higher : ReverseSuffix} (period : 
         byteset = set;
       })
       (Short 0 (length needle))
+      TwoWay
       (before + (lower .rounds + higher .rounds))
       → later ≡ max (lower .start) (higher .start) → set ≡ fingerprint (take (p - 0) (drop 0 needle))
       → r ≡ prepareShort needle n c p before
@@ -141,6 +141,7 @@ pub long-is : (needle : List ℕ) (n c before : ℕ) {longer set : ℕ} {r : Par
       byteset = set;
     })
     Long
+    TwoWay
     before
     → longer ≡ max c (length needle - c) → set ≡ fingerprint needle → r ≡ prepareLong needle n c before
 unfolding prepareLong
@@ -174,48 +175,30 @@ module _ (needle : List ℕ) {split : Suffix} {k : ℕ} (pos : 0 < length needle
       let pairs : min (j + 1) (chosen needle .start) ≡ chosen needle .start = omega arith in
       a ∙ rw (e, le-ltb _ _ l, pairs)
 
--- ---- the checks
+-- ---- the whole
 
-module _ (m n : ℕ) {c : Check} (e : c ≡ lengths n m) where
-  pub check-lengths : {why : Refusal} → c ≡ Check.Refuse why → Check.Refuse why ≡ checks m n
-  unfolding checks
-  check-lengths h = rw (← e, h)
-
-  module _ (passed : c ≡ Check.Pass) where
-    pub check-empty : m ≡ 0 → Check.Refuse EmptyNeedle ≡ checks m n
-    unfolding checks
-    check-empty z = rw (← e, passed, eq-eqb _ _ z)
-
-    pub check-passes : (m ≡ 0 → ⊥) → Check.Pass ≡ checks m n
-    unfolding checks
-    check-passes z = rw (← e, passed, ne-eqb _ _ z)
-
-module _ (needle : List ℕ) (n : ℕ) {c : Check} (e : c ≡ checks (length needle) n) where
+module _ (needle : List ℕ) (n : ℕ) {c : Check} (e : c ≡ lengths n (length needle)) where
   pub prepare-refuses : {why : Refusal} {r : PartsTold} → r ≡ refuse why → c ≡ Check.Refuse why → r ≡ prepareRule needle n
   unfolding prepareRule
   prepare-refuses q h = q ∙ rw (← e, h)
 
-  pub prepare-steps : {r : PartsTold} → r ≡ fiveSteps needle n → c ≡ Check.Pass → r ≡ prepareRule needle n
-  unfolding prepareRule
-  prepare-steps q h = q ∙ rw (← e, h)
+  module _ (passed : c ≡ Check.Pass) where
+    pub prepare-empty : {r : PartsTold} → r ≡ emptyWalk n → length needle ≡ 0 → r ≡ prepareRule needle n
+    unfolding prepareRule
+    prepare-empty q z = q ∙ rw (← e, passed, eq-eqb _ _ z)
+
+    -- what is not empty, and within the bound
+    module _ (some-letters : length needle ≡ 0 → ⊥) where
+      pub prepare-steps : {r : PartsTold} → r ≡ fiveSteps needle n → r ≡ prepareRule needle n
+      unfolding prepareRule
+      prepare-steps q = q ∙ rw (← e, passed, ne-eqb _ _ some-letters)
+
+      pub passed-some : 0 < length needle
+      passed-some = omega arith
+
+    pub passed-small : length needle ≤ needleBound
+    passed-small = lengths-pass n (length needle) e passed .needle-in
 
 -- what each return of preparing has to show, from the rule's answer alone
 pub prepare-settled : (needle : List ℕ) (n : ℕ) {r : PartsTold} → r ≡ prepareRule needle n → (r ≡ prepareRule needle n) × NoState r
 prepare-settled needle n e = (e, subst NoState (sym e) (refused-fits-nothing needle n))
-
--- what passes is not empty, and within the bound
-module _ (m n : ℕ) {c : Check} (e : c ≡ checks m n) (h : c ≡ Check.Pass) where
-  passed : (0 < m) × (m ≤ needleBound)
-  unfolding checks
-  passed = go (lengths n m) (eqb m 0) refl refl (sym e ∙ h)
-    where
-      go : (l : Check) (b : Bool) → lengths n m ≡ l → eqb m 0 ≡ b → andThen l (refuseIf b EmptyNeedle) ≡ Check.Pass → (0 < m) × (m ≤ needleBound)
-      go (Check.Refuse why) b el eb q = let z : _≡_ {A = ℕ} 0 1 = cc in absurd (omega arith)
-      go Check.Pass true el eb q = let z : _≡_ {A = ℕ} 0 1 = cc in absurd (omega arith)
-      go Check.Pass false el eb q = let some = eqb-false m 0 eb in (omega arith, lengths-pass n m (sym el) refl .needle-in)
-
-  pub passed-some : 0 < m
-  passed-some = passed .0
-
-  pub passed-small : m ≤ needleBound
-  passed-small = passed .1

@@ -5,10 +5,10 @@ use mathlib.Core.Path.{_≡_}
 use mathlib.Core.Bool.{true, false, cond}
 use mathlib.Core.List.{List}
 use mathlib.Core.Option.{none, some}
-use lib.Dec.{ltb}
+use lib.Dec.{ltb, eqb}
 use lib.ListN.{length, take, drop}
 use Rattle.words.specs.Word.{front, back}
-use Rattle.limits.specs.Checks.{lengths, andThen, nonempty}
+use Rattle.limits.specs.Checks.{lengths}
 use Rattle.limits.specs.Refusals.{numberOf}
 use Rattle.limits.specs.Said.{Said, refused, given}
 use Rattle.limits.specs.declared.Check.{Check}
@@ -21,6 +21,8 @@ use Rattle.suffix.specs.declared.ReverseSuffix.{ReverseSuffix}
 use Rattle.record.specs.Fits.{fits}
 use Rattle.record.specs.declared.Memory.{Memory}
 use Rattle.record.specs.declared.Memory.the-variants.{Long, Short}
+use Rattle.record.specs.declared.Kind.{Kind}
+use Rattle.record.specs.declared.Kind.the-variants.{TwoWay, Empty}
 use Rattle.record.specs.declared.Fixed.{Fixed}
 use Rattle.record.specs.declared.Moving.{Moving}
 use Rattle.record.specs.declared.Counts.{Counts}
@@ -66,9 +68,14 @@ abbrev pub preparing : ℕ → Counts
 preparing k = record { preparing = k; comparisons = 0; tests = 0 }
 
 -- 5. "`position` 0, `end` n."
-abbrev pub ready : Fixed → Memory → ℕ → PartsTold
-ready f memory k =
-    record { answer = given tt; fixed = f; moving = record { position = 0; end = f .«haystack_len»; memory = memory }; counts = preparing k }
+abbrev pub ready : Fixed → Memory → Kind → ℕ → PartsTold
+ready f memory kind k =
+    record {
+      answer = given tt;
+      fixed = f;
+      moving = record { position = 0; end = f .«haystack_len»; memory = memory; kind = kind };
+      counts = preparing k;
+    }
 
 -- 3. "Equal: Short. p is kept and b is m minus the greater of the two reverse starts. `byteset` covers the first p bytes; memories are 0 and m."
 -- `before` is what was counted before the reverse passes.
@@ -86,6 +93,7 @@ prepareShort needle n c p before =
       byteset = fingerprint (take p needle);
     })
     (Short 0 (length needle))
+    TwoWay
     (before + reverseRounds needle p)
 
 -- 4. "Different: Long, p = max(c, m-c)+1, b = c, `byteset` covers the whole needle."
@@ -101,6 +109,7 @@ prepareLong needle n c before =
       byteset = fingerprint needle;
     })
     Long
+    TwoWay
     before
 
 -- the five steps
@@ -120,26 +129,31 @@ toReverse r = record { start = r .start; rounds = r .rounds }
 abbrev pub choice : List ℕ → Suffix
 choice needle = record { start = chosen needle .start; period = chosen needle .period; rounds = forwardRounds needle }
 
+-- what is fixed where there is nothing to split
+abbrev pub lengthsAlone : ℕ → ℕ → Fixed
+lengthsAlone m n = record { «needle_len» = m; «haystack_len» = n; «crit_pos» = 0; «crit_pos_back» = 0; period = 0; byteset = 0 }
+
+-- "The record gains a second kind of walk" (02 [1]): an empty needle's. Both directions give a Match first, and "all counts are 0".
+abbrev pub emptyWalk : ℕ → PartsTold
+emptyWalk n = ready (lengthsAlone 0 n) Long (Empty true true) 0
+
 -- "refused, it gives no state": the record is then this one, which fits nothing (`NoState`)
 abbrev pub refuse : Refusal → PartsTold
 refuse why =
     record {
       answer = refused (numberOf why);
-      fixed = record { «needle_len» = 0; «haystack_len» = 0; «crit_pos» = 0; «crit_pos_back» = 0; period = 0; byteset = 0 };
-      moving = record { position = 0; end = 0; memory = Long };
+      fixed = lengthsAlone 0 0;
+      moving = record { position = 0; end = 0; memory = Long; kind = TwoWay };
       counts = preparing 0;
     }
-
--- "Preparing takes the needle and the haystack's length (check 1 is made on that length)": checks 1, 2 and 3
-unfoldable pub checks : ℕ → ℕ → Check
-checks m n = andThen (lengths n m) (nonempty m)
 
 abbrev pub orParts : Check → PartsTold → PartsTold
 orParts Check.Pass otherwise = otherwise
 orParts (Check.Refuse why) otherwise = refuse why
 
+-- "Preparing takes the needle and the haystack's length (check 1 is made on that length)": checks 1 and 2
 unfoldable pub prepareRule : List ℕ → ℕ → PartsTold
-prepareRule needle n = orParts (checks (length needle) n) (fiveSteps needle n)
+prepareRule needle n = orParts (lengths n (length needle)) (cond (eqb (length needle) 0) (emptyWalk n) (fiveSteps needle n))
 
 -- "refused, it gives no state": what is handed back then fits no needle and no haystack
 abbrev pub NoState : PartsTold → Type 0

@@ -3,6 +3,7 @@ use limits::Check;
 use limits::Refusal;
 use record::Counts;
 use record::Fixed;
+use record::Kind;
 use record::Memory;
 use record::Moving;
 use suffix::ReverseAnswer;
@@ -17,7 +18,7 @@ ghost use Rattle.words.specs.Word.{front, back};
 ghost use Rattle.words.specs.Period.{Period};
 ghost use Rattle.limits.specs.Bounds.{needleBound};
 ghost use Rattle.suffix.specs.Rounds.{rounds};
-ghost use Rattle.prepare.specs.Prepare.{choice, toReverse, partsTold, prepareShort, prepareLong, refuse, ready, fiveSteps, checks, prepareRule, NoState};
+ghost use Rattle.prepare.specs.Prepare.{choice, toReverse, partsTold, prepareShort, prepareLong, refuse, ready, lengthsAlone, emptyWalk, fiveSteps, prepareRule, NoState};
 
 pub enum Preparation {
     Ready,
@@ -98,8 +99,8 @@ fn counted(preparing: usize) -> Counts
 }
 
 // A walk that is ready: both directions stand at their ends of the haystack.
-fn prepared(fixed: Fixed, memory: Memory, preparing: usize) -> Parts
-    ensures { λ r. ⌜ partsTold r ≡ ready fixed memory preparing ⌝ }
+fn prepared(fixed: Fixed, memory: Memory, kind: Kind, preparing: usize) -> Parts
+    ensures { λ r. ⌜ partsTold r ≡ ready fixed memory kind preparing ⌝ }
 {
     Parts {
         answer: Preparation::Ready,
@@ -108,6 +109,7 @@ fn prepared(fixed: Fixed, memory: Memory, preparing: usize) -> Parts
             position: 0,
             end: fixed.haystack_len,
             memory,
+            kind,
         },
         counts: counted(preparing),
     }
@@ -134,7 +136,12 @@ fn short(needle: &[u8], n: usize, c: usize, p: usize, before: usize) -> Parts
         forward: 0,
         backward: m,
     };
-    prepared(fixed, memory, before + (lower.rounds + higher.rounds))
+    prepared(
+        fixed,
+        memory,
+        Kind::TwoWay,
+        before + (lower.rounds + higher.rounds),
+    )
 }
 
 // Step 4: it is none, so the period that is kept is only one that is safe to move by.
@@ -151,7 +158,7 @@ fn long(needle: &[u8], n: usize, c: usize, before: usize) -> Parts
         period: number::larger(c, m - c) + 1,
         byteset: byteset::byteset_create(needle),
     };
-    prepared(fixed, Memory::Long, before)
+    prepared(fixed, Memory::Long, Kind::TwoWay, before)
 }
 
 // The five steps, for a needle that is not empty and within the bound.
@@ -169,41 +176,46 @@ fn five_steps(needle: &[u8], n: usize) -> Parts
     short(needle, n, c, p, split.rounds + c)
 }
 
+// What preparing fixes where it has nothing to split: the lengths, and zeros.
+fn lengths_alone(m: usize, n: usize) -> Fixed
+    ensures { λ r. ⌜ r ≡ lengthsAlone m n ⌝ }
+{
+    Fixed {
+        needle_len: m,
+        haystack_len: n,
+        crit_pos: 0,
+        crit_pos_back: 0,
+        period: 0,
+        byteset: 0,
+    }
+}
+
+// An empty needle: nothing is looked at, and in both directions a match is the first thing to come.
+fn empty(n: usize) -> Parts
+    ensures { λ r. ⌜ partsTold r ≡ emptyWalk n ⌝ }
+{
+    let kind = Kind::Empty {
+        is_match_fw: true,
+        is_match_bw: true,
+    };
+    prepared(lengths_alone(0, n), Memory::Long, kind, 0)
+}
+
 // What is handed back where nothing is prepared.
 fn refused(why: Refusal) -> Parts
     ensures { λ r. ⌜ partsTold r ≡ refuse why ⌝ }
 {
     Parts {
         answer: Preparation::Refused(why),
-        fixed: Fixed {
-            needle_len: 0,
-            haystack_len: 0,
-            crit_pos: 0,
-            crit_pos_back: 0,
-            period: 0,
-            byteset: 0,
-        },
+        fixed: lengths_alone(0, 0),
         moving: Moving {
             position: 0,
             end: 0,
             memory: Memory::Long,
+            kind: Kind::TwoWay,
         },
         counts: counted(0),
     }
-}
-
-// Checks 1 to 3.
-fn check(needle: &[u8], n: usize) -> Check
-    ensures { λ r. ⌜ r ≡ checks (length (now (needle .entry))) n ⌝ }
-{
-    let lengths = limits::check_lengths(n, needle.len());
-    if let Check::Refuse(why) = lengths {
-        return Check::Refuse(why);
-    }
-    if needle.len() == 0 {
-        return Check::Refuse(Refusal::EmptyNeedle);
-    }
-    Check::Pass
 }
 
 // Prepares a walk for a needle in a haystack of n bytes.
@@ -211,9 +223,12 @@ pub fn prepare(needle: &[u8], n: usize) -> Parts
     ensures rule { λ r. ⌜ partsTold r ≡ prepareRule (now (needle .entry)) n ⌝ }
     ensures meaning { λ r. ⌜ NoState (partsTold r) ⌝ }
 {
-    let check = check(needle, n);
+    let check = limits::check_lengths(n, needle.len());
     if let Check::Refuse(why) = check {
         return refused(why);
+    }
+    if needle.len() == 0 {
+        return empty(n);
     }
     five_steps(needle, n)
 }

@@ -1,22 +1,25 @@
--- What it says of a state that it fits, and that the walks of a fitting state go by plans that fit, in both directions.
+-- What it says of a state that it fits, and that the walks of a fitting two way state go by plans that fit, in both directions.
 -- This holds of every state that fits, prepared or not.
 -- Assumes nothing.
 use Prim.Native.Nat.{ℕ, _+_, _-_, _<_, _≤_, max}
-use mathlib.Core.Path.{_≡_, refl}
-use mathlib.Core.Bool.{true}
+use mathlib.Core.Path.{_≡_, refl, sym, subst}
+use mathlib.Core.Bool.{true, false, cond, false≢true}
 use mathlib.Core.Logic.{_⊎_, ⊎-elim}
 use mathlib.Core.List.{List}
 use native.Mathlib.Omega.{arith}
+use lib.Dec.{eqb}
 use lib.ListN.{length}
 use Rattle.words.proofs.Tests.{Decides, decides-eq, decides-lt, decides-le, decides-and, decides-or, decides-iff}
 use Rattle.windows.specs.Mirror.{mirroredPlan}
 use Rattle.windows.specs.Shape.{Shape, BackShape}
 use Rattle.record.specs.declared.Memory.{Memory}
 use Rattle.record.specs.declared.Memory.the-variants.{Long, Short}
+use Rattle.record.specs.declared.Kind.{Kind}
+use Rattle.record.specs.declared.Kind.the-variants.{TwoWay, Empty}
 use Rattle.record.specs.declared.Fixed.{Fixed}
 use Rattle.record.specs.declared.Moving.{Moving}
 use Rattle.record.specs.Fits.{fitsShort, fitsLong, fitsSplits, fits}
-use Rattle.record.specs.Kinds.{forwardMemory, backwardMemory, forwardPlan, backwardPlan}
+use Rattle.record.specs.Kinds.{flagsOf, forwardMemory, backwardMemory, forwardPlan, backwardPlan}
 
 -- the tests of fitsShort, fitsLong and fits as facts
 pub record ShortFits (m c b p forward backward : ℕ) : Type 0 where
@@ -37,12 +40,16 @@ abbrev pub SplitsFit : ℕ → ℕ → ℕ → ℕ → Memory → Type 0
 SplitsFit m c b p (Short forward backward) = ShortFits m c b p forward backward
 SplitsFit m c b p Long = LongFits m c b p
 
+abbrev pub KindFits : ℕ → Fixed → Memory → Kind → Type 0
+KindFits m f memory TwoWay = SplitsFit m (f .«crit_pos») (f .«crit_pos_back») (f .period) memory
+KindFits m f memory (Empty forward backward) = m ≡ 0
+
 pub record StateFits (needle haystack : List ℕ) (f : Fixed) (s : Moving) : Type 0 where
   pub needle-is : f .«needle_len» ≡ length needle
   pub haystack-is : f .«haystack_len» ≡ length haystack
   pub position-in : s .position ≤ length haystack
   pub end-in : s .end ≤ length haystack
-  pub splits : SplitsFit (length needle) (f .«crit_pos») (f .«crit_pos_back») (f .period) (s .memory)
+  pub kind-fits : KindFits (length needle) f (s .memory) (s .kind)
 
 decides-short : (m c b p forward backward : ℕ) → Decides (ShortFits m c b p forward backward) (fitsShort m c b p forward backward)
 unfolding fitsShort
@@ -71,17 +78,22 @@ decides-splits : (m c b p : ℕ) (memory : Memory) → Decides (SplitsFit m c b 
 decides-splits m c b p (Short forward backward) = decides-short m c b p forward backward
 decides-splits m c b p Long = decides-long m c b p
 
+decides-kind : (m : ℕ) (f : Fixed) (memory : Memory) (kind : Kind)
+    → Decides (KindFits m f memory kind) (cond (flagsOf kind .empty) (eqb m 0) (fitsSplits m (f .«crit_pos») (f .«crit_pos_back») (f .period) memory))
+decides-kind m f memory TwoWay = decides-splits m (f .«crit_pos») (f .«crit_pos_back») (f .period) memory
+decides-kind m f memory (Empty forward backward) = decides-eq m 0
+
 pub decides-fits : (needle haystack : List ℕ) (f : Fixed) (s : Moving) → Decides (StateFits needle haystack f s) (fits needle haystack f s)
 unfolding fits
 decides-fits needle haystack f s =
     decides-iff
-    (λ h. record { needle-is = h .0; haystack-is = h .1 .0; position-in = h .1 .1 .0; end-in = h .1 .1 .1 .0; splits = h .1 .1 .1 .1 })
-    (λ h. (h .needle-is, (h .haystack-is, (h .position-in, (h .end-in, h .splits)))))
+    (λ h. record { needle-is = h .0; haystack-is = h .1 .0; position-in = h .1 .1 .0; end-in = h .1 .1 .1 .0; kind-fits = h .1 .1 .1 .1 })
+    (λ h. (h .needle-is, (h .haystack-is, (h .position-in, (h .end-in, h .kind-fits)))))
     (decides-and _ _ (decides-eq (f .«needle_len») (length needle))
     (decides-and _ _ (decides-eq (f .«haystack_len») (length haystack))
     (decides-and _ _ (decides-le (s .position) (length haystack))
     (decides-and _ _ (decides-le (s .end) (length haystack))
-    (decides-splits (length needle) (f .«crit_pos») (f .«crit_pos_back») (f .period) (s .memory))))))
+    (decides-kind (length needle) f (s .memory) (s .kind))))))
 
 -- what the walks rest on, for a needle of m letters in a haystack of n
 pub record ForwardFits (m n : ℕ) (f : Fixed) (s : Moving) : Type 0 where
@@ -112,14 +124,37 @@ module _ (m n : ℕ) (f : Fixed) (s : Moving) (here : s .position ≤ n) (there 
   backward-fits Long e k =
       record { shape = rw e (omega arith); back = rw e (omega arith); memory = rw e (omega arith); within = there }
 
--- Every state that fits has what the walks rest on. (The needle is then not empty, so that need not be asked.)
-module _ (needle haystack : List ℕ) (f : Fixed) (s : Moving) (e : fits needle haystack f s ≡ true) where
-  pub fits-forward : ForwardFits (length needle) (length haystack) f s
-  fits-forward =
-      let k = decides-fits needle haystack f s .sound e in
-      forward-fits _ _ f s (k .position-in) (k .end-in) (s .memory) refl (k .splits)
+-- a walk that is not an empty one is a two way one
+pub told-two-way : (kind : Kind) → flagsOf kind .empty ≡ false → kind ≡ TwoWay
+told-two-way TwoWay e = refl
+told-two-way (Empty forward backward) e = absurd (false≢true (sym e))
 
-  pub fits-backward : BackwardFits (length needle) (length haystack) f s
-  fits-backward =
-      let k = decides-fits needle haystack f s .sound e in
-      backward-fits _ _ f s (k .position-in) (k .end-in) (s .memory) refl (k .splits)
+splits-some : (m c b p : ℕ) (memory : Memory) → SplitsFit m c b p memory → 0 < m
+splits-some m c b p (Short forward backward) k = omega arith
+splits-some m c b p Long k = omega arith
+
+module _ (needle haystack : List ℕ) (f : Fixed) (s : Moving) (e : fits needle haystack f s ≡ true) where
+  pub state : StateFits needle haystack f s
+  state = decides-fits needle haystack f s .sound e
+
+  -- a needle that is not empty is walked by a two way state
+  pub some-two-way : 0 < length needle → s .kind ≡ TwoWay
+  some-two-way some = go (s .kind) (state .kind-fits)
+    where
+      go : (kind : Kind) → KindFits (length needle) f (s .memory) kind → kind ≡ TwoWay
+      go TwoWay k = refl
+      go (Empty forward backward) k = absurd (omega arith)
+
+  -- Every two way state that fits has what the walks rest on. It fits no empty needle.
+  module _ (two-way : s .kind ≡ TwoWay) where
+    pub two-way-splits : SplitsFit (length needle) (f .«crit_pos») (f .«crit_pos_back») (f .period) (s .memory)
+    two-way-splits = subst (KindFits (length needle) f (s .memory)) two-way (state .kind-fits)
+
+    pub two-way-some : 0 < length needle
+    two-way-some = splits-some (length needle) (f .«crit_pos») (f .«crit_pos_back») (f .period) (s .memory) two-way-splits
+
+    pub fits-forward : ForwardFits (length needle) (length haystack) f s
+    fits-forward = forward-fits _ _ f s (state .position-in) (state .end-in) (s .memory) refl two-way-splits
+
+    pub fits-backward : BackwardFits (length needle) (length haystack) f s
+    fits-backward = backward-fits _ _ f s (state .position-in) (state .end-in) (s .memory) refl two-way-splits

@@ -1,7 +1,7 @@
--- What a record that fits is to its two walks, and what it is once one of them has moved. m is the needle's size and n the haystack's.
+-- What a two way record that fits is to its two walks, and what it is once one of them has moved. m is the needle's size and n the haystack's.
 -- Assumes nothing.
 use Prim.Native.Nat.{ℕ, _≤_}
-use mathlib.Core.Path.{_≡_, refl, sym}
+use mathlib.Core.Path.{_≡_, refl, sym, subst}
 use mathlib.Core.Bool.{true}
 use mathlib.Core.List.{List}
 use mathlib.Core.Logic.{_⊎_, inl, ⊎-elim}
@@ -9,11 +9,12 @@ use lib.ListN.{length}
 use Rattle.windows.specs.declared.Cursor.{Cursor}
 use Rattle.record.specs.declared.Memory.{Memory}
 use Rattle.record.specs.declared.Memory.the-variants.{Long, Short}
+use Rattle.record.specs.declared.Kind.the-variants.{TwoWay}
 use Rattle.record.specs.declared.Fixed.{Fixed}
 use Rattle.record.specs.declared.Moving.{Moving}
 use Rattle.record.specs.Fits.{fits}
 use Rattle.record.specs.Kinds.{forwardMemory, backwardMemory, setForward, setBackward, forwardPeriodMemory, backwardPeriodMemory, forwardPlan, backwardPlan, forwardCursor, backwardCursor, movedForward, movedBackward}
-use Rattle.record.proofs.Fitting.{SplitsFit, StateFits, decides-fits}
+use Rattle.record.proofs.Fitting.{SplitsFit, KindFits, decides-fits, state, two-way-splits}
 
 -- ---- the memory
 
@@ -77,33 +78,42 @@ set-backward l Long = refl
 -- ---- the record
 
 abbrev movedBoth : Moving → Cursor → Cursor → Moving
-movedBoth s k l = record { position = k .at; end = l .at; memory = setBoth (k .memory) (l .memory) (s .memory) }
+movedBoth s k l = record { position = k .at; end = l .at; memory = setBoth (k .memory) (l .memory) (s .memory); kind = s .kind }
 
 -- The record fits with s′ in place of s, its walks go by the same plans, and they stand at k and l.
 pub record Goes (needle haystack : List ℕ) (f : Fixed) (s s′ : Moving) (k l : Cursor) : Type 0 where
   pub fit : fits needle haystack f s′ ≡ true
+  pub kind : s′ .kind ≡ s .kind
   pub plan : forwardPlan (length needle) f (s′ .memory) ≡ forwardPlan (length needle) f (s .memory)
   pub back-plan : backwardPlan (length needle) f (s′ .memory) ≡ backwardPlan (length needle) f (s .memory)
   pub cursor : forwardCursor s′ ≡ k
   pub back-cursor : backwardCursor (length needle) s′ ≡ l
 
-module _ (needle haystack : List ℕ) (f : Fixed) (s : Moving) (e : fits needle haystack f s ≡ true) where
+module _ (needle haystack : List ℕ) (f : Fixed) (s : Moving) (e : fits needle haystack f s ≡ true) (two-way : s .kind ≡ TwoWay) where
   abbrev m : ℕ
   m = length needle
 
   abbrev n : ℕ
   n = length haystack
 
-  state : StateFits needle haystack f s
-  state = decides-fits needle haystack f s .sound e
+  splits : SplitsFit m (f .«crit_pos») (f .«crit_pos_back») (f .period) (s .memory)
+  splits = two-way-splits needle haystack f s e two-way
 
   moved-both : (k l : Cursor) → k .at ≤ n → l .at ≤ n → Known m (f .period) (s .memory) (k .memory) → KnownBack m (f .period) (s .memory) (l .memory)
       → Goes needle haystack f s (movedBoth s k l) k l
   moved-both k l inside inside′ known known′ =
-      let set = set-both m (f .«crit_pos») (f .«crit_pos_back») (f .period) (s .memory) (k .memory) (l .memory) (state .splits) known known′ in
+      let was = state needle haystack f s e in
+      let set = set-both m (f .«crit_pos») (f .«crit_pos_back») (f .period) (s .memory) (k .memory) (l .memory) splits known known′ in
       record {
         fit = decides-fits needle haystack f (movedBoth s k l) .complete
-            (record { needle-is = state .needle-is; haystack-is = state .haystack-is; position-in = inside; end-in = inside′; splits = set .splits });
+            (record {
+              needle-is = was .needle-is;
+              haystack-is = was .haystack-is;
+              position-in = inside;
+              end-in = inside′;
+              kind-fits = subst (KindFits m f (setBoth (k .memory) (l .memory) (s .memory))) (sym two-way) (set .splits);
+            });
+        kind = refl;
         plan = rw (set .forward-period);
         back-plan = rw (set .backward-period);
         cursor = rw (set .forward-is);
@@ -111,13 +121,13 @@ module _ (needle haystack : List ℕ) (f : Fixed) (s : Moving) (e : fits needle 
       }
 
   pub known-now : Known m (f .period) (s .memory) (forwardMemory (s .memory))
-  known-now = known m (f .«crit_pos») (f .«crit_pos_back») (f .period) (s .memory) (state .splits)
+  known-now = known m (f .«crit_pos») (f .«crit_pos_back») (f .period) (s .memory) splits
 
   pub known-back-now : KnownBack m (f .period) (s .memory) (backwardMemory m (s .memory))
-  known-back-now = known-back m (f .«crit_pos») (f .«crit_pos_back») (f .period) (s .memory) (state .splits)
+  known-back-now = known-back m (f .«crit_pos») (f .«crit_pos_back») (f .period) (s .memory) splits
 
   pub moved-forward : (k : Cursor) → k .at ≤ n → Known m (f .period) (s .memory) (k .memory) → Goes needle haystack f s (movedForward s k) k (backwardCursor m s)
-  moved-forward k inside known = rw (set-forward m (k .memory) (s .memory)) (moved-both k (backwardCursor m s) inside (state .end-in) known known-back-now)
+  moved-forward k inside known = rw (set-forward m (k .memory) (s .memory)) (moved-both k (backwardCursor m s) inside (state needle haystack f s e .end-in) known known-back-now)
 
   pub moved-backward : (l : Cursor) → l .at ≤ n → KnownBack m (f .period) (s .memory) (l .memory) → Goes needle haystack f s (movedBackward s l) (forwardCursor s) l
-  moved-backward l inside known = rw (set-backward (l .memory) (s .memory)) (moved-both (forwardCursor s) l (state .position-in) inside known-now known)
+  moved-backward l inside known = rw (set-backward (l .memory) (s .memory)) (moved-both (forwardCursor s) l (state needle haystack f s e .position-in) inside known-now known)

@@ -7,9 +7,11 @@ use mathlib.Core.List.{List}
 use lib.Dec.{eqb}
 use lib.ListN.{length}
 use borrow.Author.Tests.{lt-ltb, le-ltb, le-leb, lt-leb, eq-eqb, ne-eqb}
+use Rattle.record.specs.declared.Flags.{Flags}
 use Rattle.record.specs.declared.Fixed.{Fixed}
 use Rattle.record.specs.declared.Moving.{Moving}
 use Rattle.record.specs.Fits.{fitsLong, fitsShort, fitsSplits, fits}
+use Rattle.record.specs.Kinds.{flagsOf}
 
 module _ (m c b p : ℕ) where
   pub long-zero : c < 1 → false ≡ fitsLong m c b p
@@ -86,7 +88,13 @@ module _ (needle haystack : List ℕ) (f : Fixed) (s : Moving) where
       unfolding fits
       fits-end p h = rw (eq-eqb _ _ en, eq-eqb _ _ eh, le-leb _ _ p, lt-leb _ _ h)
 
-      pub fits-rest : {r : Bool} → s .position ≤ length haystack → s .end ≤ length haystack
-          → r ≡ fitsSplits (length needle) (f .«crit_pos») (f .«crit_pos_back») (f .period) (s .memory) → r ≡ fits needle haystack f s
-      unfolding fits
-      fits-rest p h e = e ∙ rw (eq-eqb _ _ en, eq-eqb _ _ eh, le-leb _ _ p, le-leb _ _ h)
+      -- by the kind, as its flags tell it
+      module _ (p : s .position ≤ length haystack) (h : s .end ≤ length haystack) {flags : Flags} (told : flags ≡ flagsOf (s .kind)) where
+        pub fits-empty : flags .empty ≡ true → eqb (length needle) 0 ≡ fits needle haystack f s
+        unfolding fits
+        fits-empty e = rw (eq-eqb _ _ en, eq-eqb _ _ eh, le-leb _ _ p, le-leb _ _ h, ← told, e)
+
+        pub fits-rest : {r : Bool} → flags .empty ≡ false → r ≡ fitsSplits (length needle) (f .«crit_pos») (f .«crit_pos_back») (f .period) (s .memory)
+            → r ≡ fits needle haystack f s
+        unfolding fits
+        fits-rest e q = q ∙ rw (eq-eqb _ _ en, eq-eqb _ _ eh, le-leb _ _ p, le-leb _ _ h, ← told, e)

@@ -12,6 +12,7 @@ use Rattle.record.specs.declared.Memory.{Memory}
 use Rattle.record.specs.declared.Memory.the-variants.{Long, Short}
 use Rattle.record.specs.declared.Fixed.{Fixed}
 use Rattle.record.specs.declared.Moving.{Moving}
+use Rattle.record.specs.Kinds.{flagsOf}
 
 -- "if Short, c < p, p at most m, b above m-p and at most m, forward memory 0 or m-p, backward memory m or p"
 unfoldable pub fitsShort : ℕ → ℕ → ℕ → ℕ → ℕ → ℕ → Bool
@@ -27,13 +28,14 @@ fitsSplits m c b p (Short forward backward) = fitsShort m c b p forward backward
 fitsSplits m c b p Long = fitsLong m c b p
 
 -- "A state fits a needle and haystack when all hold: both stored lengths are theirs; `position` and `end` are at most n; .. Any `byteset` fits."
+-- "An empty walk's state fits an empty needle only, .. flags as they may be." (02 [1])
 unfoldable pub fits : List ℕ → List ℕ → Fixed → Moving → Bool
 fits needle haystack f s =
     eqb (f .«needle_len») (length needle)
     && (eqb (f .«haystack_len») (length haystack)
     && (leb (s .position) (length haystack)
     && (leb (s .end) (length haystack)
-    && fitsSplits (length needle) (f .«crit_pos») (f .«crit_pos_back») (f .period) (s .memory))))
+    && cond (flagsOf (s .kind) .empty) (eqb (length needle) 0) (fitsSplits (length needle) (f .«crit_pos») (f .«crit_pos_back») (f .period) (s .memory)))))
 
 -- check 4: "a handed-in state doesn't fit"
 unfoldable pub fitting : List ℕ → List ℕ → Fixed → Moving → Check

@@ -1,12 +1,25 @@
 -- What the record is to each direction of a walk: what it goes by, where it stands, and the record once it has moved.
--- This is the one place that tells the kinds of memory apart for a walk. Assumes nothing.
+-- This is the one place that tells the kinds of walk apart, and those of a two way walk's memory. Assumes nothing.
 use Prim.Native.Nat.{ℕ, _-_}
+use mathlib.Core.Bool.{true, false}
 use Rattle.windows.specs.declared.Plan.{Plan}
 use Rattle.windows.specs.declared.Cursor.{Cursor}
 use Rattle.record.specs.declared.Memory.{Memory}
 use Rattle.record.specs.declared.Memory.the-variants.{Long, Short}
+use Rattle.record.specs.declared.Kind.{Kind}
+use Rattle.record.specs.declared.Kind.the-variants.{TwoWay, Empty}
+use Rattle.record.specs.declared.Flags.{Flags}
 use Rattle.record.specs.declared.Fixed.{Fixed}
 use Rattle.record.specs.declared.Moving.{Moving}
+
+-- ---- the kinds of walk
+
+-- "The record gains a second kind of walk" (02 [1]): whether it is this one, the empty one, and its flags. A two way walk has none, and they read false.
+abbrev pub flagsOf : Kind → Flags
+flagsOf TwoWay = record { empty = false; «is_match_fw» = false; «is_match_bw» = false }
+flagsOf (Empty forward backward) = record { empty = true; «is_match_fw» = forward; «is_match_bw» = backward }
+
+-- ---- a two way walk
 
 -- "Long has none" (read as 0 forward and m backward), Short has a number for each.
 abbrev pub forwardMemory : Memory → ℕ
@@ -65,7 +78,7 @@ backwardCursor m s = record { at = s .end; memory = backwardMemory m (s .memory)
 
 -- the record with one direction moved to a cursor
 abbrev pub movedForward : Moving → Cursor → Moving
-movedForward s k = record { position = k .at; end = s .end; memory = setForward (k .memory) (s .memory) }
+movedForward s k = record { position = k .at; end = s .end; memory = setForward (k .memory) (s .memory); kind = s .kind }
 
 abbrev pub movedBackward : Moving → Cursor → Moving
-movedBackward s k = record { position = s .position; end = k .at; memory = setBackward (k .memory) (s .memory) }
+movedBackward s k = record { position = s .position; end = k .at; memory = setBackward (k .memory) (s .memory); kind = s .kind }

@@ -3,6 +3,7 @@
 use crate::Fixed;
 use crate::Memory;
 use crate::Moving;
+use crate::kinds::flags_of;
 ghost use mathlib.Core.Path.{_≡_};
 ghost use Rattle.record.specs.Fits.{fitsLong, fitsShort, fitsSplits, fits};
 
@@ -72,6 +73,11 @@ pub fn fits(haystack: &[u8], needle: &[u8], fixed: Fixed, moving: Moving) -> boo
     }
     if haystack.len() < moving.end {
         return false;
+    }
+    let kind = moving.kind;
+    let flags = flags_of(kind);
+    if flags.empty {
+        return needle.len() == 0;
     }
     let memory = moving.memory;
     fits_splits(

@@ -1,11 +1,34 @@
-// What the kind of a walk's memory is to its two directions: what they go by, where they stand, and what they set.
+// What the kind of a walk, and of its memory, is to its two directions: what they go by, where they stand, and what they set.
 use crate::Fixed;
+use crate::Flags;
+use crate::Kind;
 use crate::Memory;
 use crate::Moving;
 use windows::Cursor;
 use windows::Plan;
 ghost use mathlib.Core.Path.{_≡_};
-ghost use Rattle.record.specs.Kinds.{forwardMemory, backwardMemory, setForward, setBackward, forwardPeriodMemory, backwardPeriodMemory, forwardPlan, backwardPlan, forwardCursor, backwardCursor, movedForward, movedBackward};
+ghost use Rattle.record.specs.Kinds.{flagsOf, forwardMemory, backwardMemory, setForward, setBackward, forwardPeriodMemory, backwardPeriodMemory, forwardPlan, backwardPlan, forwardCursor, backwardCursor, movedForward, movedBackward};
+
+// The one place that tells the kinds of walk apart.
+pub fn flags_of(kind: Kind) -> Flags
+    ensures { λ r. ⌜ r ≡ flagsOf kind ⌝ }
+{
+    match kind {
+        Kind::TwoWay => Flags {
+            empty: false,
+            is_match_fw: false,
+            is_match_bw: false,
+        },
+        Kind::Empty {
+            is_match_fw,
+            is_match_bw,
+        } => Flags {
+            empty: true,
+            is_match_fw,
+            is_match_bw,
+        },
+    }
+}
 
 // What the memory is to each direction: a Long walk has none, and reads as if nothing were known.
 fn forward_memory(memory: Memory) -> usize
@@ -139,10 +162,12 @@ pub fn moved_forward(moving: Moving, to: Cursor) -> Moving
     ensures { λ r. ⌜ r ≡ movedForward moving to ⌝ }
 {
     let memory = moving.memory;
+    let kind = moving.kind;
     Moving {
         position: to.at,
         end: moving.end,
         memory: set_forward(to.memory, memory),
+        kind,
     }
 }
 
@@ -150,9 +175,11 @@ pub fn moved_backward(moving: Moving, to: Cursor) -> Moving
     ensures { λ r. ⌜ r ≡ movedBackward moving to ⌝ }
 {
     let memory = moving.memory;
+    let kind = moving.kind;
     Moving {
         position: moving.position,
         end: to.at,
         memory: set_backward(to.memory, memory),
+        kind,
     }
 }

@@ -4,3 +4,4 @@ pub mod BackwardWindow
 pub mod Loops
 pub mod LoopsBack
 pub mod Calls
+pub mod Turning

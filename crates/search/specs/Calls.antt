@@ -1,37 +1,41 @@
--- A walk taken on in one direction, by a step or to the next match: 01's "One forward step" and "One backward step" on the record, with the checks and the counts.
+-- A walk taken on in one direction, by a step or to the next match: 01's "One forward step" and "One backward step" on the record, and 02's [1], with the checks and the counts.
 -- Assumes nothing.
-use Prim.Native.Nat.{ℕ, _+_}
+use Prim.Native.Nat.{ℕ, _+_, _-_}
 use mathlib.Core.Bool.{Bool, cond, _&&_}
 use mathlib.Core.List.{List}
 use lib.Dec.{eqb}
 use lib.ListN.{length}
 use Rattle.words.specs.Word.{front}
-use Rattle.limits.specs.Checks.{lengths, andThen, nonempty}
+use Rattle.limits.specs.Checks.{lengths, andThen}
 use Rattle.limits.specs.declared.Check.{Check}
 use Rattle.byteset.specs.Fingerprint.{has}
 use Rattle.windows.specs.declared.Stop.{Stop}
 use Rattle.windows.specs.declared.Searched.{Searched}
 use Rattle.windows.specs.Search.{forwardSearch, backwardSearch}
+use Rattle.empty.specs.Turns.{turned}
+use Rattle.empty.specs.declared.Gives.{Gives}
+use Rattle.record.specs.declared.Kind.the-variants.{Empty}
+use Rattle.record.specs.declared.Flags.{Flags}
 use Rattle.record.specs.declared.Fixed.{Fixed}
 use Rattle.record.specs.declared.Moving.{Moving}
 use Rattle.record.specs.declared.Counts.{Counts}
 use Rattle.record.specs.Fits.{fitting}
-use Rattle.record.specs.Kinds.{forwardPlan, backwardPlan, forwardCursor, backwardCursor, movedForward, movedBackward}
+use Rattle.record.specs.Kinds.{flagsOf, forwardPlan, backwardPlan, forwardCursor, backwardCursor, movedForward, movedBackward}
 use Rattle.search.specs.declared.Ending.{Ending}
 use Rattle.search.specs.declared.Walked.{Walked}
 
--- "Checks run in the order 1, 2, 3, 4, and the first that applies is the answer"
+-- "Checks run in the order 1, 2, 3, 4, and the first that applies is the answer"; walking no longer makes check 3
 unfoldable pub refusal : List ℕ → List ℕ → Fixed → Moving → Check
 refusal needle haystack f s =
-    andThen (lengths (length haystack) (length needle)) (andThen (nonempty (length needle)) (fitting needle haystack f s))
+    andThen (lengths (length haystack) (length needle)) (fitting needle haystack f s)
 
 -- a call's counts: it prepares nothing
 abbrev pub walking : ℕ → ℕ → Counts
 walking comparisons tests = record { preparing = 0; comparisons = comparisons; tests = tests }
 
--- a call that moves nothing and costs nothing
-abbrev pub unmoved : Ending → Moving → Walked
-unmoved ending s = record { ending = ending; moving = s; counts = walking 0 0 }
+-- a call that costs nothing, and the walk as it then stands
+abbrev pub free : Ending → Moving → Walked
+free ending s = record { ending = ending; moving = s; counts = walking 0 0 }
 
 -- how a search ends, with both ends of a match: "Match(a, a+m)"
 abbrev pub endingOf : ℕ → Stop → Ending
@@ -60,18 +64,53 @@ walkedBackward m s r =
 -- "A call that takes a state hands back that same state on a refusal", counts 0
 abbrev pub orWalked : Check → Moving → Walked → Walked
 orWalked Check.Pass s otherwise = otherwise
-orWalked (Check.Refuse why) s otherwise = unmoved (Ending.Refused why) s
+orWalked (Check.Refuse why) s otherwise = free (Ending.Refused why) s
+
+-- ---- a two way walk
 
 -- "Done if `position` is n. Else .."; "Next match" is "the same without Done", and goes on past the middle Reject
-unfoldable pub forwardCall : Bool → List ℕ → List ℕ → Fixed → Moving → Walked
-forwardCall stepping needle haystack f s =
+abbrev pub twoWayForward : Bool → List ℕ → List ℕ → Fixed → Moving → Walked
+twoWayForward stepping needle haystack f s =
     let went = walkedForward (length needle) s (forward stepping needle haystack f s) in
-    orWalked (refusal needle haystack f s) s
-    (cond (stepping && eqb (s .position) (length haystack)) (unmoved Ending.Done s) went)
+    cond (stepping && eqb (s .position) (length haystack)) (free Ending.Done s) went
 
 -- "Done if `end` is 0."
-unfoldable pub backwardCall : Bool → List ℕ → List ℕ → Fixed → Moving → Walked
-backwardCall stepping needle haystack f s =
+abbrev pub twoWayBackward : Bool → List ℕ → List ℕ → Fixed → Moving → Walked
+twoWayBackward stepping needle haystack f s =
     let went = walkedBackward (length needle) s (backward stepping needle haystack f s) in
-    orWalked (refusal needle haystack f s) s
-    (cond (stepping && eqb (s .end) 0) (unmoved Ending.Done s) went)
+    cond (stepping && eqb (s .end) 0) (free Ending.Done s) went
+
+-- ---- an empty walk
+
+-- what a side gives, where it stands at `at` after that: "Match(0,0)"
+abbrev pub turnEnding : Gives → ℕ → Ending
+turnEnding Gives.Match at = Ending.Match at at
+turnEnding Gives.Reject at = Ending.Passed
+turnEnding Gives.Nothing at = Ending.Done
+
+-- Forward, the bytes ahead are those from `position` on, and backward those before `end`. "Neither direction changes the other's cursor" or flag.
+abbrev pub emptyForward : Bool → ℕ → Moving → Flags → Walked
+emptyForward stepping n s flags =
+    let r = turned stepping (record { ahead = n - s .position; «is_match» = flags .«is_match_fw» }) in
+    let at = n - r .side .ahead in
+    free (turnEnding (r .gives) at) (record { position = at; end = s .end; memory = s .memory; kind = Empty (r .side .«is_match») (flags .«is_match_bw») })
+
+abbrev pub emptyBackward : Bool → Moving → Flags → Walked
+emptyBackward stepping s flags =
+    let r = turned stepping (record { ahead = s .end; «is_match» = flags .«is_match_bw» }) in
+    let at = r .side .ahead in
+    free (turnEnding (r .gives) at) (record { position = s .position; end = at; memory = s .memory; kind = Empty (flags .«is_match_fw») (r .side .«is_match») })
+
+-- ---- the calls, by the kind of the walk
+
+abbrev pub forwardBy : Flags → Bool → List ℕ → List ℕ → Fixed → Moving → Walked
+forwardBy flags stepping needle haystack f s = cond (flags .empty) (emptyForward stepping (length haystack) s flags) (twoWayForward stepping needle haystack f s)
+
+unfoldable pub forwardCall : Bool → List ℕ → List ℕ → Fixed → Moving → Walked
+forwardCall stepping needle haystack f s = orWalked (refusal needle haystack f s) s (forwardBy (flagsOf (s .kind)) stepping needle haystack f s)
+
+abbrev pub backwardBy : Flags → Bool → List ℕ → List ℕ → Fixed → Moving → Walked
+backwardBy flags stepping needle haystack f s = cond (flags .empty) (emptyBackward stepping s flags) (twoWayBackward stepping needle haystack f s)
+
+unfoldable pub backwardCall : Bool → List ℕ → List ℕ → Fixed → Moving → Walked
+backwardCall stepping needle haystack f s = orWalked (refusal needle haystack f s) s (backwardBy (flagsOf (s .kind)) stepping needle haystack f s)

@@ -1,6 +1,7 @@
 // Taking a walk on in one direction: the checks, and then windows until there is an answer.
 mod letters;
 mod run;
+mod turns;
 mod window;
 
 use limits::Check;
@@ -12,8 +13,8 @@ use windows::Stop;
 ghost use mathlib.Core.Path.{_≡_};
 ghost use mathlib.Core.Bool.{_&&_};
 ghost use lib.Dec.{eqb};
-ghost use Rattle.search.specs.Calls.{refusal, unmoved, endingOf, forwardCall, backwardCall};
-ghost use Rattle.search.specs.Code.{StopFits};
+ghost use Rattle.search.specs.Calls.{refusal, free, endingOf, twoWayForward, twoWayBackward, forwardCall, backwardCall};
+ghost use Rattle.search.specs.Code.{StopFits, TwoWayStart};
 
 // What a call comes to: it is refused, a step finds nothing left, a match, a part passed without one, or no room for a further window.
 pub enum Ending {
@@ -31,16 +32,13 @@ pub struct Walked {
     pub counts: Counts,
 }
 
-// Checks 1 to 4: the first that refuses the call, if one does.
+// Checks 1, 2 and 4: the first that refuses the call, if one does.
 fn check(haystack: &[u8], needle: &[u8], fixed: Fixed, moving: Moving) -> Check
     ensures { λ r. ⌜ r ≡ refusal (now (needle .entry)) (now (haystack .entry)) fixed moving ⌝ }
 {
     let lengths = limits::check_lengths(haystack.len(), needle.len());
     if let Check::Refuse(why) = lengths {
         return Check::Refuse(why);
-    }
-    if needle.len() == 0 {
-        return Check::Refuse(Refusal::EmptyNeedle);
     }
     if record::fits(haystack, needle, fixed, moving) {
         Check::Pass
@@ -56,9 +54,9 @@ fn is_done(stepping: bool, at: usize, end: usize) -> bool
     if stepping { at == end } else { false }
 }
 
-// A call that moves nothing and costs nothing.
-fn stays(ending: Ending, moving: Moving) -> Walked
-    ensures { λ r. ⌜ r ≡ unmoved ending moving ⌝ }
+// A call that costs nothing, and the walk as it then stands.
+pub(crate) fn free(ending: Ending, moving: Moving) -> Walked
+    ensures { λ r. ⌜ r ≡ free ending moving ⌝ }
 {
     Walked {
         ending,
@@ -82,23 +80,19 @@ fn ending_of(m: usize, stop: Stop) -> Ending
     }
 }
 
-// A walk taken on forward, by one step (`stepping`) or to the next match.
-// The numbers are taken out of the record once, and put back once.
-pub fn forward(
+// A two way walk taken on forward. The numbers are taken out of the record once, and put back once.
+fn two_way_forward(
     haystack: &[u8],
     needle: &[u8],
     fixed: Fixed,
     moving: Moving,
     stepping: bool,
 ) -> Walked
-    ensures { λ r. ⌜ r ≡ forwardCall stepping (now (needle .entry)) (now (haystack .entry)) fixed moving ⌝ }
+    requires { ⌜ TwoWayStart (now needle) (now haystack) fixed moving ⌝ }
+    ensures { λ r. ⌜ r ≡ twoWayForward stepping (now (needle .entry)) (now (haystack .entry)) fixed moving ⌝ }
 {
-    let check = check(haystack, needle, fixed, moving);
-    if let Check::Refuse(why) = check {
-        return stays(Ending::Refused(why), moving);
-    }
     if is_done(stepping, moving.position, haystack.len()) {
-        return stays(Ending::Done, moving);
+        return free(Ending::Done, moving);
     }
     let memory = moving.memory;
     let v = record::forward_plan(needle.len(), fixed, memory);
@@ -118,21 +112,18 @@ pub fn forward(
 }
 
 // The same backward.
-pub fn backward(
+fn two_way_backward(
     haystack: &[u8],
     needle: &[u8],
     fixed: Fixed,
     moving: Moving,
     stepping: bool,
 ) -> Walked
-    ensures { λ r. ⌜ r ≡ backwardCall stepping (now (needle .entry)) (now (haystack .entry)) fixed moving ⌝ }
+    requires { ⌜ TwoWayStart (now needle) (now haystack) fixed moving ⌝ }
+    ensures { λ r. ⌜ r ≡ twoWayBackward stepping (now (needle .entry)) (now (haystack .entry)) fixed moving ⌝ }
 {
-    let check = check(haystack, needle, fixed, moving);
-    if let Check::Refuse(why) = check {
-        return stays(Ending::Refused(why), moving);
-    }
     if is_done(stepping, moving.end, 0) {
-        return stays(Ending::Done, moving);
+        return free(Ending::Done, moving);
     }
     let memory = moving.memory;
     let v = record::backward_plan(needle.len(), fixed, memory);
@@ -149,4 +140,48 @@ pub fn backward(
             tests: r.tests,
         },
     }
+}
+
+// A walk taken on forward, by one step (`stepping`) or to the next match.
+pub fn forward(
+    haystack: &[u8],
+    needle: &[u8],
+    fixed: Fixed,
+    moving: Moving,
+    stepping: bool,
+) -> Walked
+    ensures { λ r. ⌜ r ≡ forwardCall stepping (now (needle .entry)) (now (haystack .entry)) fixed moving ⌝ }
+{
+    let check = check(haystack, needle, fixed, moving);
+    if let Check::Refuse(why) = check {
+        return free(Ending::Refused(why), moving);
+    }
+    let kind = moving.kind;
+    let flags = record::flags_of(kind);
+    if flags.empty {
+        return turns::forward(haystack.len(), moving, flags, stepping);
+    }
+    two_way_forward(haystack, needle, fixed, moving, stepping)
+}
+
+// The same backward.
+pub fn backward(
+    haystack: &[u8],
+    needle: &[u8],
+    fixed: Fixed,
+    moving: Moving,
+    stepping: bool,
+) -> Walked
+    ensures { λ r. ⌜ r ≡ backwardCall stepping (now (needle .entry)) (now (haystack .entry)) fixed moving ⌝ }
+{
+    let check = check(haystack, needle, fixed, moving);
+    if let Check::Refuse(why) = check {
+        return free(Ending::Refused(why), moving);
+    }
+    let kind = moving.kind;
+    let flags = record::flags_of(kind);
+    if flags.empty {
+        return turns::backward(moving, flags, stepping);
+    }
+    two_way_backward(haystack, needle, fixed, moving, stepping)
 }

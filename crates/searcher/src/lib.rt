@@ -1,8 +1,9 @@
-// The two way searcher: preparing, and walks in both directions.
+// The two way searcher: preparing, and walks in both directions, those of an empty needle too.
 use limits::Refusal;
 pub use prepare::Preparation;
 pub use record::Counts;
 pub use record::Fixed;
+pub use record::Kind;
 pub use record::Memory;
 pub use record::Moving;
 use search::Ending;
@@ -147,7 +148,8 @@ impl TwoWaySearcher {
         step_of(fixed, called, called.moving.end, self.moving.end)
     }
 
-    // The next match forward: the least occurrence from `position` on, or nothing exactly if there is none (`NextMatchMeans`).
+    // The next match forward: the least occurrence that is still to be given, from `position` on, or nothing exactly if there is none
+    // (`NextMatchMeans`).
     pub fn next_match(self, haystack: &[u8], needle: &[u8]) -> Matched
         ensures { λ r. ⌜ matchedTold r ≡ nextMatchRule (now (needle .entry)) (now (haystack .entry)) self ⌝ }
     {
@@ -156,8 +158,8 @@ impl TwoWaySearcher {
         match_of(fixed, called)
     }
 
-    // The next match backward: the greatest occurrence that ends at `end` or before it, or nothing exactly if there is none
-    // (`NextMatchBackMeans`).
+    // The next match backward: the greatest occurrence that is still to be given, that ends at `end` or before it, or nothing exactly
+    // if there is none (`NextMatchBackMeans`).
     pub fn next_match_back(self, haystack: &[u8], needle: &[u8]) -> Matched
         ensures { λ r. ⌜ matchedTold r ≡ nextMatchBackRule (now (needle .entry)) (now (haystack .entry)) self ⌝ }
     {

@@ -1,57 +1,67 @@
 -- What each return of this crate's functions has to show.
 -- Assumes nothing.
 use Prim.Native.Nat.{ℕ}
-use mathlib.Core.Path.{_≡_}
+use mathlib.Core.Path.{_≡_, subst}
 use mathlib.Core.Bool.{Bool, true, false}
 use mathlib.Core.List.{List}
 use lib.ListN.{length}
+use mir.Val.{boolByte}
 use Rattle.lines.specs.Reading.{isEnd, skipped}
 use Rattle.lines.specs.declared.Cursor.{Cursor}
 use Rattle.lines.specs.declared.Cursor.the-variants.{At, Lost}
-use Rattle.fields.specs.Fields.{setAt}
+use Rattle.fields.specs.Fields.{flagAt, setAt}
+use Rattle.fields.specs.declared.Flag.{Flag}
 use Rattle.fields.specs.declared.Number.{Number}
 use Rattle.fields.specs.declared.Set.{Set}
-use Rattle.printing.specs.Printing.{Prints}
+use Rattle.printing.specs.Printing.{Prints, formText}
+use Rattle.record.specs.declared.Memory.{Memory}
 use Rattle.record.specs.declared.Memory.the-variants.{Long, Short}
+use Rattle.record.specs.declared.Flags.{Flags}
+use Rattle.record.specs.Kinds.{flagsOf}
+use Rattle.record.specs.declared.Kind.the-variants.{TwoWay, Empty}
 use Rattle.searcher.specs.declared.TwoWaySearcher.{TwoWaySearcher}
 use Rattle.states.specs.declared.Read.{Read}
-use Rattle.states.specs.declared.Kind.{Kind}
+use Rattle.states.specs.declared.Letter.{Letter}
+use Rattle.states.specs.declared.Letter.the-variants.{L, S, E}
+use Rattle.states.specs.declared.Head.{Head}
 use Rattle.states.specs.declared.Two.{Two}
-use Rattle.states.specs.declared.Row.{Row}
+use Rattle.states.specs.declared.Ends.{Ends}
 use Rattle.states.specs.declared.Remembered.{Remembered}
-use Rattle.states.specs.States.{kindAt, fieldAt, twoAt, rowAt, memoryAt, walkOf, stateAt, textOf, stateText}
+use Rattle.states.specs.declared.Rest.{Rest}
+use Rattle.states.specs.States.{headAt, fieldAt, twoAt, endsAt, memoryAt, splitsAt, flagsAt, restAt, walkOf, stateAt, twoWayText, emptyForm, emptyNumbers, emptyText, textOf, stateText}
 
 module _ (s : List ℕ) (c : Cursor) where
   module _ {long : Cursor} (first : long ≡ skipped s c 76) where
-    pub kind-long : {k : ℕ} → long ≡ At k → _≡_ {A = Kind} (record { long = true; next = long }) (kindAt s c)
-    unfolding kindAt
-    kind-long e = rw (← first, e)
+    pub head-long : {k : ℕ} → long ≡ At k → _≡_ {A = Head} (record { letter = L; next = long }) (headAt s c)
+    unfolding headAt
+    head-long e = rw (← first, e)
 
-    pub kind-short : {short : Cursor} → long ≡ Lost → short ≡ skipped s c 83 → _≡_ {A = Kind} (record { long = false; next = short }) (kindAt s c)
-    unfolding kindAt
-    kind-short e second = rw (← first, e, second)
+    module _ {short : Cursor} (second : short ≡ skipped s c 83) where
+      pub head-short : {k : ℕ} → long ≡ Lost → short ≡ At k → _≡_ {A = Head} (record { letter = S; next = short }) (headAt s c)
+      unfolding headAt
+      head-short e q = rw (← first, e, ← second, q)
+
+      pub head-empty : {empty : Cursor} → long ≡ Lost → short ≡ Lost → empty ≡ skipped s c 69 → _≡_ {A = Head} (record { letter = E; next = empty }) (headAt s c)
+      unfolding headAt
+      head-empty e q third = rw (← first, e, ← second, q, third)
 
   pub two-is : {first second : Number} → first ≡ fieldAt s c → second ≡ fieldAt s (first .next)
       → _≡_ {A = Two} (record { first = first .value; second = second .value; next = second .next }) (twoAt s c)
   unfolding twoAt
   two-is e q = rw (q, e)
 
-  pub row-is : {lengths places splits : Two} {period : Number} → lengths ≡ twoAt s c → places ≡ twoAt s (lengths .next) → splits ≡ twoAt s (places .next)
-      → period ≡ fieldAt s (splits .next)
-      → _≡_ {A = Row}
+  pub ends-is : {lengths places : Two} → lengths ≡ twoAt s c → places ≡ twoAt s (lengths .next)
+      → _≡_ {A = Ends}
       (record {
         «needle_len» = lengths .first;
         «haystack_len» = lengths .second;
         position = places .first;
         end = places .second;
-        «crit_pos» = splits .first;
-        «crit_pos_back» = splits .second;
-        period = period .value;
-        next = period .next;
+        next = places .next;
       })
-      (rowAt s c)
-  unfolding rowAt
-  row-is a b d e = rw (e, d, b, a)
+      (endsAt s c)
+  unfolding endsAt
+  ends-is a b = rw (b, a)
 
   pub memory-long : {long : Bool} → long ≡ true → _≡_ {A = Remembered} (record { memory = Long; next = c }) (memoryAt s c long)
   unfolding memoryAt
@@ -62,16 +72,75 @@ module _ (s : List ℕ) (c : Cursor) where
   unfolding memoryAt
   memory-short e q = rw (e, q)
 
-  pub state-is : {kind : Kind} {row : Row} {colon : Cursor} {set : Set} {rest : Remembered} {walk : TwoWaySearcher} {whole : Bool} → kind ≡ kindAt s c → row ≡ rowAt s (kind .next)
-      → colon ≡ skipped s (row .next) 58 → set ≡ setAt s colon → rest ≡ memoryAt s (set .next) (kind .long) → walk ≡ walkOf row (set .value) (rest .memory)
-      → whole ≡ isEnd (length s) (rest .next) → _≡_ {A = Read} (record { walk = walk; whole = whole }) (stateAt s c)
+  pub splits-are : (long : Bool) {splits : Two} {period : Number} {colon : Cursor} {set : Set} {last : Remembered} → splits ≡ twoAt s c → period ≡ fieldAt s (splits .next)
+      → colon ≡ skipped s (period .next) 58 → set ≡ setAt s colon → last ≡ memoryAt s (set .next) long
+      → _≡_ {A = Rest}
+      (record {
+        «crit_pos» = splits .first;
+        «crit_pos_back» = splits .second;
+        period = period .value;
+        byteset = set .value;
+        memory = last .memory;
+        kind = TwoWay;
+        next = last .next;
+      })
+      (splitsAt s c long)
+  unfolding splitsAt
+  splits-are long a b d e f = rw (f, e, d, b, a)
+
+  pub flags-are : {colon then : Cursor} {forward backward : Flag} → colon ≡ skipped s c 58 → forward ≡ flagAt s colon → then ≡ skipped s (forward .next) 58
+      → backward ≡ flagAt s then
+      → _≡_ {A = Rest}
+      (record {
+        «crit_pos» = 0;
+        «crit_pos_back» = 0;
+        period = 0;
+        byteset = 0;
+        memory = Long;
+        kind = Empty (forward .set) (backward .set);
+        next = backward .next;
+      })
+      (flagsAt s c)
+  unfolding flagsAt
+  flags-are a b d e = rw (e, d, b, a)
+
+  module _ {letter : Letter} {rest : Rest} where
+    pub rest-long : letter ≡ L → rest ≡ splitsAt s c true → rest ≡ restAt s c letter
+    rest-long e q = rw e q
+
+    pub rest-short : letter ≡ S → rest ≡ splitsAt s c false → rest ≡ restAt s c letter
+    rest-short e q = rw e q
+
+    pub rest-empty : letter ≡ E → rest ≡ flagsAt s c → rest ≡ restAt s c letter
+    rest-empty e q = rw e q
+
+  pub state-is : {head : Head} {ends : Ends} {rest : Rest} {walk : TwoWaySearcher} {whole : Bool} → head ≡ headAt s c → ends ≡ endsAt s (head .next)
+      → rest ≡ restAt s (ends .next) (head .letter) → walk ≡ walkOf ends rest → whole ≡ isEnd (length s) (rest .next)
+      → _≡_ {A = Read} (record { walk = walk; whole = whole }) (stateAt s c)
   unfolding stateAt
-  state-is a b d e f g h = rw (g, h, f, e, d, b, a)
+  state-is a b d e f = rw (e, f, d, b, a)
 
--- what was printed is the text of the state, by its kind
+-- what was printed is the text of the state, by its memory and by its kind
 module _ (room : List ℕ) (at : ℕ) (after : List ℕ) (r : ℕ) (w : TwoWaySearcher) where
-  pub prints-long : w .moving .memory ≡ Long → Prints room at (textOf w Long) after r → Prints room at (stateText w) after r
-  prints-long e p = rw e p
+  module _ {memory : Memory} where
+    pub prints-long : memory ≡ Long → Prints room at (twoWayText w Long) after r → Prints room at (twoWayText w memory) after r
+    prints-long e p = rw e p
 
-  pub prints-short : {forward backward : ℕ} → w .moving .memory ≡ Short forward backward → Prints room at (textOf w (Short forward backward)) after r → Prints room at (stateText w) after r
-  prints-short e p = rw e p
+    pub prints-short : {forward backward : ℕ} → memory ≡ Short forward backward → Prints room at (twoWayText w (Short forward backward)) after r
+        → Prints room at (twoWayText w memory) after r
+    prints-short e p = rw e p
+
+  -- what a cast makes of a flag is its digit
+  pub prints-flags : (forward backward : Bool) → Prints room at (formText emptyForm (emptyNumbers w (boolByte forward) (boolByte backward))) after r
+      → Prints room at (emptyText w forward backward) after r
+  prints-flags true true p = p
+  prints-flags true false p = p
+  prints-flags false true p = p
+  prints-flags false false p = p
+
+  module _ {flags : Flags} (told : flags ≡ flagsOf (w .moving .kind)) where
+    pub prints-two-way : flags .empty ≡ false → Prints room at (twoWayText w (w .moving .memory)) after r → Prints room at (stateText w) after r
+    prints-two-way e p = subst (λ f. Prints room at (textOf w f) after r) told (rw e p)
+
+    pub prints-empty : flags .empty ≡ true → Prints room at (emptyText w (flags .«is_match_fw») (flags .«is_match_bw»)) after r → Prints room at (stateText w) after r
+    prints-empty e p = subst (λ f. Prints room at (textOf w f) after r) told (rw e p)

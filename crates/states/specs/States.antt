@@ -1,35 +1,42 @@
--- STATE of docs/LINES.md, `L:m:n:position:end:c:b:p:SET` or `S:m:n:position:end:c:b:p:SET:FORWARD:BACKWARD`: what is read of it at a place of a line,
--- and its text.
+-- STATE of docs/LINES.md: `L:m:n:position:end:c:b:p:SET`, `S:m:n:position:end:c:b:p:SET:FORWARD:BACKWARD` or
+-- `E:m:n:position:end:FORWARD:BACKWARD`. What is read of it at a place of a line, and its text.
 -- Assumes nothing.
 use Prim.Native.Nat.{ℕ}
-use mathlib.Core.Bool.{Bool, true, false}
+use mathlib.Core.Bool.{Bool, true, false, cond}
 use mathlib.Core.List.{List, [], _∷_, _++_}
 use lib.ListN.{length}
 use Rattle.lines.specs.Reading.{isEnd, skipped}
 use Rattle.lines.specs.declared.Cursor.{Cursor}
 use Rattle.lines.specs.declared.Cursor.the-variants.{At, Lost}
-use Rattle.fields.specs.Fields.{numberAt, setAt}
+use Rattle.fields.specs.Fields.{flagAt, numberAt, setAt}
 use Rattle.fields.specs.declared.Number.{Number}
 use Rattle.printing.specs.Printing.{formText}
 use Rattle.record.specs.declared.Memory.{Memory}
 use Rattle.record.specs.declared.Memory.the-variants.{Long, Short}
+use Rattle.record.specs.declared.Flags.{Flags}
+use Rattle.record.specs.Kinds.{flagsOf}
+use Rattle.record.specs.declared.Kind.the-variants.{TwoWay, Empty}
 use Rattle.searcher.specs.declared.TwoWaySearcher.{TwoWaySearcher}
 use Rattle.states.specs.declared.Read.{Read}
-use Rattle.states.specs.declared.Kind.{Kind}
+use Rattle.states.specs.declared.Letter.{Letter}
+use Rattle.states.specs.declared.Letter.the-variants.{L, S, E}
+use Rattle.states.specs.declared.Head.{Head}
 use Rattle.states.specs.declared.Two.{Two}
-use Rattle.states.specs.declared.Row.{Row}
+use Rattle.states.specs.declared.Ends.{Ends}
 use Rattle.states.specs.declared.Remembered.{Remembered}
+use Rattle.states.specs.declared.Rest.{Rest}
 
 -- ---- reading
 
--- the kind, where `long` is the cursor behind an L and `short` the one behind an S
-abbrev pub kindOf : Cursor → Cursor → Kind
-kindOf (At k) short = record { long = true; next = At k }
-kindOf Lost short = record { long = false; next = short }
+-- the letter, where `long` is the cursor behind an L, `short` the one behind an S, and `empty` the one behind an E
+abbrev pub headOf : Cursor → Cursor → Cursor → Head
+headOf (At k) short empty = record { letter = L; next = At k }
+headOf Lost (At k) empty = record { letter = S; next = At k }
+headOf Lost Lost empty = record { letter = E; next = empty }
 
--- L is 76, S 83
-unfoldable pub kindAt : List ℕ → Cursor → Kind
-kindAt s c = kindOf (skipped s c 76) (skipped s c 83)
+-- `L:` for Long, `S:` for Short, `E:` for an empty needle; L is 76, S 83, E 69
+unfoldable pub headAt : List ℕ → Cursor → Head
+headAt s c = headOf (skipped s c 76) (skipped s c 83) (skipped s c 69)
 
 -- the number behind a colon (58), and two of them in a row
 abbrev pub fieldAt : List ℕ → Cursor → Number
@@ -41,67 +48,114 @@ twoAt s c =
     let second = fieldAt s (first .next) in
     record { first = first .value; second = second .value; next = second .next }
 
--- m, n, position, end, c, b and p
-unfoldable pub rowAt : List ℕ → Cursor → Row
-rowAt s c =
+-- what all three forms have: m and n, `position` and `end`
+unfoldable pub endsAt : List ℕ → Cursor → Ends
+endsAt s c =
     let lengths = twoAt s c in
     let places = twoAt s (lengths .next) in
-    let splits = twoAt s (places .next) in
-    let period = fieldAt s (splits .next) in
     record {
       «needle_len» = lengths .first;
       «haystack_len» = lengths .second;
       position = places .first;
       end = places .second;
-      «crit_pos» = splits .first;
-      «crit_pos_back» = splits .second;
-      period = period .value;
-      next = period .next;
+      next = places .next;
     }
 
--- the memories of a short state; a long one has none
+-- Short's two memories; Long has none
 unfoldable pub memoryAt : List ℕ → Cursor → Bool → Remembered
 memoryAt s c true = record { memory = Long; next = c }
 memoryAt s c false = let two = twoAt s c in record { memory = Short (two .first) (two .second); next = two .next }
 
-abbrev pub walkOf : Row → ℕ → Memory → TwoWaySearcher
-walkOf row set memory =
+-- what a two way state has behind that: c and b, p, SET and the memories
+unfoldable pub splitsAt : List ℕ → Cursor → Bool → Rest
+splitsAt s c long =
+    let splits = twoAt s c in
+    let period = fieldAt s (splits .next) in
+    let set = setAt s (skipped s (period .next) 58) in
+    let last = memoryAt s (set .next) long in
+    record {
+      «crit_pos» = splits .first;
+      «crit_pos_back» = splits .second;
+      period = period .value;
+      byteset = set .value;
+      memory = last .memory;
+      kind = TwoWay;
+      next = last .next;
+    }
+
+-- and an empty walk's: its two flags. It has no splits, no period, no set and no memories.
+unfoldable pub flagsAt : List ℕ → Cursor → Rest
+flagsAt s c =
+    let forward = flagAt s (skipped s c 58) in
+    let backward = flagAt s (skipped s (forward .next) 58) in
+    record {
+      «crit_pos» = 0;
+      «crit_pos_back» = 0;
+      period = 0;
+      byteset = 0;
+      memory = Long;
+      kind = Empty (forward .set) (backward .set);
+      next = backward .next;
+    }
+
+-- what stands behind the ends, by the letter
+abbrev pub restAt : List ℕ → Cursor → Letter → Rest
+restAt s c L = splitsAt s c true
+restAt s c S = splitsAt s c false
+restAt s c E = flagsAt s c
+
+abbrev pub walkOf : Ends → Rest → TwoWaySearcher
+walkOf ends rest =
     record {
       fixed = record {
-        «needle_len» = row .«needle_len»;
-        «haystack_len» = row .«haystack_len»;
-        «crit_pos» = row .«crit_pos»;
-        «crit_pos_back» = row .«crit_pos_back»;
-        period = row .period;
-        byteset = set;
+        «needle_len» = ends .«needle_len»;
+        «haystack_len» = ends .«haystack_len»;
+        «crit_pos» = rest .«crit_pos»;
+        «crit_pos_back» = rest .«crit_pos_back»;
+        period = rest .period;
+        byteset = rest .byteset;
       };
-      moving = record { position = row .position; end = row .end; memory = memory };
+      moving = record { position = ends .position; end = ends .end; memory = rest .memory; kind = rest .kind };
     }
 
 -- the state at the cursor, and whether the line ends behind it
 unfoldable pub stateAt : List ℕ → Cursor → Read
 stateAt s c =
-    let kind = kindAt s c in
-    let row = rowAt s (kind .next) in
-    let set = setAt s (skipped s (row .next) 58) in
-    let rest = memoryAt s (set .next) (kind .long) in
-    record { walk = walkOf row (set .value) (rest .memory); whole = isEnd (length s) (rest .next) }
+    let head = headAt s c in
+    let ends = endsAt s (head .next) in
+    let rest = restAt s (ends .next) (head .letter) in
+    record { walk = walkOf ends rest; whole = isEnd (length s) (rest .next) }
 
 -- ---- printing
 
 -- ` L:#:#:#:#:#:#:#:%`, and with S and `:#:#` behind it
 abbrev pub formOf : ℕ → List ℕ
-formOf kind = 32 ∷ kind ∷ 58 ∷ 35 ∷ 58 ∷ 35 ∷ 58 ∷ 35 ∷ 58 ∷ 35 ∷ 58 ∷ 35 ∷ 58 ∷ 35 ∷ 58 ∷ 35 ∷ 58 ∷ 37 ∷ []
+formOf letter = 32 ∷ letter ∷ 58 ∷ 35 ∷ 58 ∷ 35 ∷ 58 ∷ 35 ∷ 58 ∷ 35 ∷ 58 ∷ 35 ∷ 58 ∷ 35 ∷ 58 ∷ 35 ∷ 58 ∷ 37 ∷ []
 
--- the numbers of a state, its memories last
+-- the numbers of such a state, its memories last
 abbrev pub numbersOf : TwoWaySearcher → ℕ → ℕ → List ℕ
 numbersOf w forward backward =
     w .fixed .«needle_len» ∷ w .fixed .«haystack_len» ∷ w .moving .position ∷ w .moving .end ∷ w .fixed .«crit_pos» ∷ w .fixed .«crit_pos_back» ∷ w .fixed .period ∷ w .fixed .byteset ∷ forward ∷ backward ∷ []
 
--- the text of a state, with a space before it; a long one's form has no marks for memories
-abbrev pub textOf : TwoWaySearcher → Memory → List ℕ
-textOf w Long = formText (formOf 76) (numbersOf w 0 0)
-textOf w (Short forward backward) = formText (formOf 83 ++ 58 ∷ 35 ∷ 58 ∷ 35 ∷ []) (numbersOf w forward backward)
+-- its text, with a space before it, by its memory; a long one's form has no marks for memories
+abbrev pub twoWayText : TwoWaySearcher → Memory → List ℕ
+twoWayText w Long = formText (formOf 76) (numbersOf w 0 0)
+twoWayText w (Short forward backward) = formText (formOf 83 ++ 58 ∷ 35 ∷ 58 ∷ 35 ∷ []) (numbersOf w forward backward)
+
+-- the same of an empty needle's state: ` E:#:#:#:#:#:#`, its numbers, and its text; a flag is 1 where it is set, else 0
+abbrev pub emptyForm : List ℕ
+emptyForm = 32 ∷ 69 ∷ 58 ∷ 35 ∷ 58 ∷ 35 ∷ 58 ∷ 35 ∷ 58 ∷ 35 ∷ 58 ∷ 35 ∷ 58 ∷ 35 ∷ []
+
+abbrev pub emptyNumbers : TwoWaySearcher → ℕ → ℕ → List ℕ
+emptyNumbers w forward backward =
+    w .fixed .«needle_len» ∷ w .fixed .«haystack_len» ∷ w .moving .position ∷ w .moving .end ∷ forward ∷ backward ∷ []
+
+abbrev pub emptyText : TwoWaySearcher → Bool → Bool → List ℕ
+emptyText w forward backward = formText emptyForm (emptyNumbers w (cond forward 1 0) (cond backward 1 0))
+
+-- the text of a state, by the kind of its walk
+abbrev pub textOf : TwoWaySearcher → Flags → List ℕ
+textOf w flags = cond (flags .empty) (emptyText w (flags .«is_match_fw») (flags .«is_match_bw»)) (twoWayText w (w .moving .memory))
 
 abbrev pub stateText : TwoWaySearcher → List ℕ
-stateText w = textOf w (w .moving .memory)
+stateText w = textOf w (flagsOf (w .moving .kind))

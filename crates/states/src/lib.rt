@@ -2,6 +2,7 @@
 use fields::Number;
 use lines::Cursor;
 use searcher::Fixed;
+use searcher::Kind;
 use searcher::Memory;
 use searcher::Moving;
 use searcher::TwoWaySearcher;
@@ -10,7 +11,7 @@ ghost use Prim.Native.Nat.{_+_};
 ghost use Rattle.printing.specs.InRoom.{InRoom};
 ghost use lib.ListN.{length};
 ghost use Rattle.printing.specs.Printing.{Prints, formText};
-ghost use Rattle.states.specs.States.{fieldAt, twoAt, kindAt, rowAt, memoryAt, walkOf, stateAt, numbersOf, stateText};
+ghost use Rattle.states.specs.States.{headAt, fieldAt, twoAt, endsAt, memoryAt, splitsAt, flagsAt, restAt, walkOf, stateAt, numbersOf, twoWayText, emptyText, stateText};
 
 // A state that was read, and whether the line ends behind it. Where it does not, what was read is no state.
 pub struct Read {
@@ -18,9 +19,16 @@ pub struct Read {
     pub whole: bool,
 }
 
+// The letter of each form: a long state, a short one, and that of an empty needle.
+enum Letter {
+    L,
+    S,
+    E,
+}
+
 // What was read of it, and where reading stands behind that.
-struct Kind {
-    long: bool,
+struct Head {
+    letter: Letter,
     next: Cursor,
 }
 
@@ -30,14 +38,11 @@ struct Two {
     next: Cursor,
 }
 
-struct Row {
+struct Ends {
     needle_len: usize,
     haystack_len: usize,
     position: usize,
     end: usize,
-    crit_pos: usize,
-    crit_pos_back: usize,
-    period: usize,
     next: Cursor,
 }
 
@@ -46,17 +51,37 @@ struct Remembered {
     next: Cursor,
 }
 
-// The kind of a state: L or S.
-fn read_kind(line: &[u8], c: Cursor) -> Kind
-    ensures { λ r. ⌜ r ≡ kindAt (now (line .entry)) c ⌝ }
+struct Rest {
+    crit_pos: usize,
+    crit_pos_back: usize,
+    period: usize,
+    byteset: u64,
+    memory: Memory,
+    kind: Kind,
+    next: Cursor,
+}
+
+// The letter of a state: L, S or E.
+fn read_head(line: &[u8], c: Cursor) -> Head
+    ensures { λ r. ⌜ r ≡ headAt (now (line .entry)) c ⌝ }
 {
-    let next = lines::skip(line, c, b'L');
-    if let Cursor::At(_) = next {
-        return Kind { long: true, next };
+    let long = lines::skip(line, c, b'L');
+    if let Cursor::At(_) = long {
+        return Head {
+            letter: Letter::L,
+            next: long,
+        };
     }
-    Kind {
-        long: false,
-        next: lines::skip(line, c, b'S'),
+    let short = lines::skip(line, c, b'S');
+    if let Cursor::At(_) = short {
+        return Head {
+            letter: Letter::S,
+            next: short,
+        };
+    }
+    Head {
+        letter: Letter::E,
+        next: lines::skip(line, c, b'E'),
     }
 }
 
@@ -81,26 +106,19 @@ fn read_two(line: &[u8], c: Cursor) -> Two
     }
 }
 
-// The seven numbers that both kinds have.
-fn read_row(line: &[u8], c: Cursor) -> Row
-    ensures { λ r. ⌜ r ≡ rowAt (now (line .entry)) c ⌝ }
+// The four numbers that all forms have.
+fn read_ends(line: &[u8], c: Cursor) -> Ends
+    ensures { λ r. ⌜ r ≡ endsAt (now (line .entry)) c ⌝ }
 {
     let lengths = read_two(line, c);
     let at = lengths.next;
     let places = read_two(line, at);
-    let at = places.next;
-    let splits = read_two(line, at);
-    let at = splits.next;
-    let period = read_one(line, at);
-    let next = period.next;
-    Row {
+    let next = places.next;
+    Ends {
         needle_len: lengths.first,
         haystack_len: lengths.second,
         position: places.first,
         end: places.second,
-        crit_pos: splits.first,
-        crit_pos_back: splits.second,
-        period: period.value,
         next,
     }
 }
@@ -126,22 +144,83 @@ fn read_memory(line: &[u8], c: Cursor, long: bool) -> Remembered
     }
 }
 
-fn walk_of(row: Row, set: u64, memory: Memory) -> TwoWaySearcher
-    ensures { λ r. ⌜ r ≡ walkOf row set memory ⌝ }
+// What a long or a short state has behind its ends: the splits, the period, the set and the memories.
+fn read_splits(line: &[u8], c: Cursor, long: bool) -> Rest
+    ensures { λ r. ⌜ r ≡ splitsAt (now (line .entry)) c long ⌝ }
 {
+    let splits = read_two(line, c);
+    let at = splits.next;
+    let period = read_one(line, at);
+    let at = period.next;
+    let set = fields::read_set(line, lines::skip(line, at, b':'));
+    let at = set.next;
+    let last = read_memory(line, at, long);
+    let memory = last.memory;
+    let next = last.next;
+    Rest {
+        crit_pos: splits.first,
+        crit_pos_back: splits.second,
+        period: period.value,
+        byteset: set.value,
+        memory,
+        kind: Kind::TwoWay,
+        next,
+    }
+}
+
+// What the state of an empty needle has there: its flags.
+fn read_flags(line: &[u8], c: Cursor) -> Rest
+    ensures { λ r. ⌜ r ≡ flagsAt (now (line .entry)) c ⌝ }
+{
+    let forward = fields::read_flag(line, lines::skip(line, c, b':'));
+    let at = forward.next;
+    let backward = fields::read_flag(line, lines::skip(line, at, b':'));
+    let next = backward.next;
+    let empty = Kind::Empty {
+        is_match_fw: forward.set,
+        is_match_bw: backward.set,
+    };
+    Rest {
+        crit_pos: 0,
+        crit_pos_back: 0,
+        period: 0,
+        byteset: 0,
+        memory: Memory::Long,
+        kind: empty,
+        next,
+    }
+}
+
+// What stands there, by the letter.
+fn read_rest(line: &[u8], c: Cursor, letter: Letter) -> Rest
+    ensures { λ r. ⌜ r ≡ restAt (now (line .entry)) c letter ⌝ }
+{
+    match letter {
+        Letter::L => read_splits(line, c, true),
+        Letter::S => read_splits(line, c, false),
+        Letter::E => read_flags(line, c),
+    }
+}
+
+fn walk_of(ends: Ends, rest: Rest) -> TwoWaySearcher
+    ensures { λ r. ⌜ r ≡ walkOf ends rest ⌝ }
+{
+    let memory = rest.memory;
+    let kind = rest.kind;
     TwoWaySearcher {
         fixed: Fixed {
-            needle_len: row.needle_len,
-            haystack_len: row.haystack_len,
-            crit_pos: row.crit_pos,
-            crit_pos_back: row.crit_pos_back,
-            period: row.period,
-            byteset: set,
+            needle_len: ends.needle_len,
+            haystack_len: ends.haystack_len,
+            crit_pos: rest.crit_pos,
+            crit_pos_back: rest.crit_pos_back,
+            period: rest.period,
+            byteset: rest.byteset,
         },
         moving: Moving {
-            position: row.position,
-            end: row.end,
+            position: ends.position,
+            end: ends.end,
             memory,
+            kind,
         },
     }
 }
@@ -150,17 +229,15 @@ fn walk_of(row: Row, set: u64, memory: Memory) -> TwoWaySearcher
 pub fn read_state(line: &[u8], c: Cursor) -> Read
     ensures { λ r. ⌜ r ≡ stateAt (now (line .entry)) c ⌝ }
 {
-    let kind = read_kind(line, c);
-    let at = kind.next;
-    let row = read_row(line, at);
-    let at = row.next;
-    let set = fields::read_set(line, lines::skip(line, at, b':'));
-    let at = set.next;
-    let rest = read_memory(line, at, kind.long);
-    let memory = rest.memory;
+    let head = read_head(line, c);
+    let at = head.next;
+    let letter = head.letter;
+    let ends = read_ends(line, at);
+    let at = ends.next;
+    let rest = read_rest(line, at, letter);
     let end = rest.next;
     Read {
-        walk: walk_of(row, set.value, memory),
+        walk: walk_of(ends, rest),
         whole: lines::is_end(line, end),
     }
 }
@@ -194,17 +271,47 @@ fn put_numbers(
     printing::put_form(out, at, form, &row)
 }
 
-// Prints a state behind a space.
-pub fn put_state(out: &mut [u8], at: usize, w: TwoWaySearcher) -> usize
+// The same by the memory, and of an empty needle's state with its flags.
+fn put_two_way(out: &mut [u8], at: usize, w: TwoWaySearcher, memory: Memory) -> usize
     ensures { λ r. ⌜ InRoom (now (out .exit)) (at + 212) r ⌝ }
-    ensures rule { λ r. ⌜ Prints (now (out .entry)) at (stateText w) (now (out .exit)) r ⌝ }
+    ensures rule { λ r. ⌜ Prints (now (out .entry)) at (twoWayText w memory) (now (out .exit)) r ⌝ }
 {
-    let moving = w.moving;
-    let memory = moving.memory;
     match memory {
         Memory::Long => put_numbers(out, at, b" L:#:#:#:#:#:#:#:%", w, 0, 0),
         Memory::Short { forward, backward } => {
             put_numbers(out, at, b" S:#:#:#:#:#:#:#:%:#:#", w, forward, backward)
         }
     }
+}
+
+fn put_empty(out: &mut [u8], at: usize, w: TwoWaySearcher, forward: bool, backward: bool) -> usize
+    ensures { λ r. ⌜ InRoom (now (out .exit)) (at + 212) r ⌝ }
+    ensures rule { λ r. ⌜ Prints (now (out .entry)) at (emptyText w forward backward) (now (out .exit)) r ⌝ }
+{
+    let fixed = w.fixed;
+    let moving = w.moving;
+    let row = [
+        fixed.needle_len,
+        fixed.haystack_len,
+        moving.position,
+        moving.end,
+        forward as usize,
+        backward as usize,
+    ];
+    printing::put_form(out, at, b" E:#:#:#:#:#:#", &row)
+}
+
+// Prints a state behind a space.
+pub fn put_state(out: &mut [u8], at: usize, w: TwoWaySearcher) -> usize
+    ensures { λ r. ⌜ InRoom (now (out .exit)) (at + 212) r ⌝ }
+    ensures rule { λ r. ⌜ Prints (now (out .entry)) at (stateText w) (now (out .exit)) r ⌝ }
+{
+    let moving = w.moving;
+    let kind = moving.kind;
+    let flags = record::flags_of(kind);
+    if flags.empty {
+        return put_empty(out, at, w, flags.is_match_fw, flags.is_match_bw);
+    }
+    let memory = moving.memory;
+    put_two_way(out, at, w, memory)
 }

@@ -52,7 +52,7 @@ module _ (text pattern : List ℕ) where
                   let few = scan-bounded backward in
                   bounded (search-one backward text pattern e refl s o refl refl) (omega arith)
               | no l ↦
-                  let ok : Allowed pattern text = record { within = lengths-pass (length text) (length pattern) e refl; nonempty = omega arith } in
+                  let ok : Allowed pattern text = record { within = lengths-pass (length text) (length pattern) e refl } in
                   bounded (search-longer backward text pattern e refl s l refl refl refl)
                   (record { walking = walk-bounded backward ok; preparing = demand-3 pattern text ok [] .preparing })
             ]

@@ -1,4 +1,4 @@
--- 01's checked examples P1 to P12, from the rules: one table under one claim.
+-- 01's checked examples P1 to P12, and the walks of an empty needle, from the rules: one table under one claim.
 -- The letters are ASCII: "a" is 97. Assumes nothing.
 use Prim.Native.Nat.{ℕ, zero, suc, _+_}
 use mathlib.Core.Bool.{Bool, true, false}
@@ -20,7 +20,8 @@ use Rattle.windows.specs.Search.{forwardSearch, backwardSearch}
 use Rattle.record.specs.Fits.{fitsShort, fitsLong, fits, fitting}
 use Rattle.record.specs.declared.Memory.{Memory}
 use Rattle.record.specs.declared.Memory.the-variants.{Long, Short}
-use Rattle.prepare.specs.Prepare.{chosen, forwardRounds, reverseRounds, prepareShort, prepareLong, fiveSteps, checks, prepareRule}
+use Rattle.empty.specs.Turns.{stepped, turned}
+use Rattle.prepare.specs.Prepare.{chosen, forwardRounds, reverseRounds, prepareShort, prepareLong, fiveSteps, prepareRule}
 use Rattle.search.specs.Calls.{refusal, forward, backward, forwardCall, backwardCall}
 use Rattle.searcher.specs.Walk.{StepTerm, match, reject, done, CallTold, newRule, nextRule, nextBackRule}
 use Rattle.searcher.specs.declared.TwoWaySearcher.{TwoWaySearcher}
@@ -103,8 +104,16 @@ table =
     ∷ record { computed = answers (behind 2 aa aaa); stated = 1 ∷ 1 ∷ 3 ∷ 2 ∷ 0 ∷ 1 ∷ [] }
     -- P12, rfind "acba" in "xacbaacbxxcba": "1"
     ∷ record { computed = codeOf (rfindRule xacbaacbxxcba acba .position) ∷ []; stated = 1 ∷ [] }
+    -- 02 [1], an empty needle in no byte and in "aa", past Done: "forward Match(0,0), Reject(0,1), Match(1,1) up to Match(n,n), then Done"
+    ∷ record { computed = answers (ahead 3 [] []); stated = 1 ∷ 0 ∷ 0 ∷ 3 ∷ 3 ∷ [] }
+    ∷ record { computed = answers (ahead 7 [] aa); stated = 1 ∷ 0 ∷ 0 ∷ 2 ∷ 0 ∷ 1 ∷ 1 ∷ 1 ∷ 1 ∷ 2 ∷ 1 ∷ 2 ∷ 1 ∷ 2 ∷ 2 ∷ 3 ∷ 3 ∷ [] }
+    -- "backward the mirror"
+    ∷ record { computed = answers (behind 3 [] []); stated = 1 ∷ 0 ∷ 0 ∷ 3 ∷ 3 ∷ [] }
+    ∷ record { computed = answers (behind 7 [] aa); stated = 1 ∷ 2 ∷ 2 ∷ 2 ∷ 1 ∷ 2 ∷ 1 ∷ 1 ∷ 1 ∷ 2 ∷ 0 ∷ 1 ∷ 1 ∷ 0 ∷ 0 ∷ 3 ∷ 3 ∷ [] }
+    -- "all counts are 0"
+    ∷ record { computed = newRule [] 2 .counts .preparing ∷ made (ahead 7 [] aa ++ behind 7 [] aa) 0 0; stated = 0 ∷ 0 ∷ 0 ∷ [] }
     ∷ []
 
 pub examples : T (all-as-stated table)
-unfolding all-as-stated same firstFrom haystackBound needleBound lengths bitOf into fingerprint has agreeing agree roundOn run rounds maximalRule forwardWindow backwardWindow forwardSearch backwardSearch fitsShort fitsLong fits fitting chosen forwardRounds reverseRounds prepareShort prepareLong fiveSteps checks prepareRule refusal forward backward forwardCall backwardCall searched walk answers made
+unfolding all-as-stated same firstFrom haystackBound needleBound lengths bitOf into fingerprint has agreeing agree roundOn run rounds maximalRule forwardWindow backwardWindow forwardSearch backwardSearch fitsShort fitsLong fits fitting chosen forwardRounds reverseRounds prepareShort prepareLong fiveSteps prepareRule stepped turned refusal forward backward forwardCall backwardCall searched walk answers made
 examples = tt

@@ -15,9 +15,9 @@ pub(crate) struct Called {
     pub(crate) walk: TwoWaySearcher,
 }
 
-// The record beside an answer that has none: what a refused preparation hands out.
+// The record beside an answer that has none: what a refused preparation hands out, here one for a haystack that is too long.
 pub(crate) fn none() -> TwoWaySearcher {
-    let refused = TwoWaySearcher::new(&[], 0);
+    let refused = TwoWaySearcher::new(&[], limits::HAYSTACK_BOUND + 1);
     refused.walk
 }
 

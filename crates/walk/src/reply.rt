@@ -84,15 +84,15 @@ fn suffix_line(line: &[u8], c: Cursor, kind: u8, word: &[u8]) -> Reply
 {
     let known = read_known(line, c, kind);
     let next = known.next;
-    let order = fields::read_order(line, lines::skip(line, next, b' '));
+    let order = fields::read_flag(line, lines::skip(line, next, b' '));
     let end = order.next;
     if !lines::is_end(line, end) {
         return alone(Front::Bad);
     }
     if kind == name::SUFFIX {
-        return suffix_found(suffix::maximal_suffix(word, order.greater));
+        return suffix_found(suffix::maximal_suffix(word, order.set));
     }
-    reverse_found(suffix::reverse_maximal_suffix(word, known.value, order.greater))
+    reverse_found(suffix::reverse_maximal_suffix(word, known.value, order.set))
 }
 
 fn place_front(position: Position) -> Front {

@@ -61,8 +61,8 @@ spent-end v m n a s d t p =
     }
 
 -- the bound after a window at k that had room: the comparisons are those up to its end, and every test before it moved on
-bounded-by : (m n a k d t : ℕ) → k + m ≤ n → d + 2 * a ≤ 2 * k + m → t + a ≤ k → Bounded m (n - a) d (t + 1)
-bounded-by m n a k d t room compared moved = omega arith
+bounded-by : (m n a k d t : ℕ) → 0 < m → k + m ≤ n → d + 2 * a ≤ 2 * k + m → t + a ≤ k → Bounded m (n - a) d (t + 1)
+bounded-by m n a k d t some room compared moved = omega arith
 
 module _ (has : ℕ → Bool) (v : Plan) (x h : Word) where
   pub window-sets : (s : Cursor) → Sets v (forwardWindow has v x h s .next .memory)
@@ -101,7 +101,7 @@ module _ (has : ℕ → Bool) (v : Plan) (x h : Word) where
           moved = omega arith;
           within = omega arith;
           memory-fits = w .memory-fits;
-          bounded = bounded-by (x .size) (h .size) a (s .at) _ t room (omega arith) (p .moved);
+          bounded = bounded-by (x .size) (h .size) a (s .at) _ t (omega arith) room (omega arith) (p .moved);
         }
 
     module _ (stepping : Bool) (old fuel : ℕ) where

@@ -121,7 +121,7 @@ module _ {has : ℕ → Bool} {v : Plan} {x : Word} (g : Guides has v x) (h : Wo
           }
 
 -- a match that moves by the needle's size: the walk lists what does not overlap
-pub gap-whole : {v : Plan} {x : Word} → v .shift ≡ x .size → 0 < x .size → Gap v x (x .size)
+pub gap-whole : {v : Plan} {x : Word} {gap : ℕ} → v .shift ≡ gap → 0 < gap → Gap v x gap
 gap-whole e pos = record { positive = pos; within = omega arith; between = λ h k j o lo hi p. absurd (omega arith) }
 
 -- What follows from the meaning of a search, once its end is known.

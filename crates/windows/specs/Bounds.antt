@@ -10,3 +10,6 @@ pub record Bounded (m k comparisons tests : ℕ) : Type 0 where
   pub tests-most : m ≤ k → tests ≤ k - m + 1
   pub comparisons-none : k < m → comparisons ≡ 0
   pub tests-none : k < m → tests ≡ 0
+  -- "For an empty needle all counts are 0 and demand 3 reads so." (02 [1])
+  pub empty-comparisons : m ≡ 0 → comparisons ≡ 0
+  pub empty-tests : m ≡ 0 → tests ≡ 0

@@ -1,6 +1,6 @@
 -- `search::check` meets its contract.
 -- Assumes nothing.
-use Rattle.search.proofs.Calls.{check-lengths, check-empty, check-passed, check-state}
+use Rattle.search.proofs.Calls.{check-lengths, check-passed, check-state}
 use borrow.Author.Needs.{needs}
 use Rattle.search.proofs.check.Statement.{statement}
 use Rattle.search.proofs.check.Tie as tie
@@ -17,17 +17,14 @@ returns c = search (needs, check-lengths)
 enum-told : tie.Need-enum-told
 enum-told c = search needs
 
-returns-2 : tie.Need-returns-2
-returns-2 c = search (needs, check-empty)
-
 fits-requires : tie.Need-fits-requires
 fits-requires c κs = search needs
 
-returns-3 : tie.Need-returns-3
-returns-3 c = search (needs, check-passed)
+returns-2 : tie.Need-returns-2
+returns-2 c = search (needs, check-passed)
 
-returns-4 : tie.Need-returns-4
-returns-4 c = search (needs, check-state)
+returns-3 : tie.Need-returns-3
+returns-3 c = search (needs, check-state)
 
 pub check-spec : {M : Type 1} → statement M
 check-spec =
@@ -37,7 +34,6 @@ check-spec =
     enum-known-lengths
     returns
     enum-told
-    returns-2
     fits-requires
-    returns-3
-    returns-4)
+    returns-2
+    returns-3)

@@ -1,7 +1,7 @@
 -- `search::forward` meets its contract.
 -- Assumes nothing.
 use borrow.Author.Needs.{needs}
-use Rattle.search.proofs.Calls.{forward-refused, forward-start, forward-stop, forward-done, forward-walked}
+use Rattle.search.proofs.Calls.{forward-refused, position-in, forward-empty, two-way-start, forward-two-way}
 use Rattle.search.proofs.forward.Statement.{statement}
 use Rattle.search.proofs.forward.Tie as tie
 
@@ -11,8 +11,8 @@ check-requires c κs = search needs
 enum-known-check : tie.Need-enum-known-check
 enum-known-check c = search needs
 
-stays-requires : tie.Need-stays-requires
-stays-requires c κs = search needs
+free-requires : tie.Need-free-requires
+free-requires c κs = search needs
 
 returns : tie.Need-returns
 returns c = search (needs, forward-refused)
@@ -20,32 +20,20 @@ returns c = search (needs, forward-refused)
 enum-told : tie.Need-enum-told
 enum-told c = search needs
 
-is-done-requires : tie.Need-is-done-requires
-is-done-requires c κs = search needs
+flags-of-requires : tie.Need-flags-of-requires
+flags-of-requires c κs = search needs
 
-stays-requires-2 : tie.Need-stays-requires-2
-stays-requires-2 c κs = search needs
+forward-requires : tie.Need-forward-requires
+forward-requires c κs = search (needs, position-in)
 
 returns-2 : tie.Need-returns-2
-returns-2 c = search (needs, forward-done)
+returns-2 c = search (needs, forward-empty)
 
-forward-plan-requires : tie.Need-forward-plan-requires
-forward-plan-requires c κs = search needs
-
-forward-cursor-requires : tie.Need-forward-cursor-requires
-forward-cursor-requires c κs = search needs
-
-forward-search-requires : tie.Need-forward-search-requires
-forward-search-requires c κs = search (needs, forward-start)
-
-ending-of-requires : tie.Need-ending-of-requires
-ending-of-requires c κs = search (needs, forward-stop)
-
-moved-forward-requires : tie.Need-moved-forward-requires
-moved-forward-requires c κs = search needs
+two-way-forward-requires : tie.Need-two-way-forward-requires
+two-way-forward-requires c κs = search (needs, two-way-start)
 
 returns-3 : tie.Need-returns-3
-returns-3 c = search (needs, forward-walked)
+returns-3 c = search (needs, forward-two-way)
 
 pub forward-spec : {M : Type 1} → statement M
 forward-spec =
@@ -53,15 +41,11 @@ forward-spec =
     (tie.spec
     check-requires
     enum-known-check
-    stays-requires
+    free-requires
     returns
     enum-told
-    is-done-requires
-    stays-requires-2
+    flags-of-requires
+    forward-requires
     returns-2
-    forward-plan-requires
-    forward-cursor-requires
-    forward-search-requires
-    ending-of-requires
-    moved-forward-requires
+    two-way-forward-requires
     returns-3)
