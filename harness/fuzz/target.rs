@@ -7,9 +7,7 @@
 
 #![no_main]
 
-mod fence;
-
-use fence::Fence;
+use harness::fence::Fence;
 use harness::port::{self, Found};
 use harness::{judge, naive};
 use std::cell::RefCell;

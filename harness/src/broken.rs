@@ -4,7 +4,7 @@ use crate::compare::Run;
 use crate::failure::Failure;
 use crate::model::{Fault, Model};
 
-const FAULTS: [(Fault, &str); 19] = [
+const FAULTS: [(Fault, &str); 20] = [
     (Fault::DifferenceNotCounted, "the differing comparison is not counted"),
     (Fault::MemoryKeptAfterSkip, "forward memory is kept after a fingerprint skip"),
     (Fault::MemoryKeptAfterRightDifference, "forward memory is kept after a right difference"),
@@ -27,6 +27,7 @@ const FAULTS: [(Fault, &str); 19] = [
     (Fault::RejectPastEnd, "an empty needle's walk ends with Reject(n, n+1)"),
     (Fault::EmptyFitsOneByte, "an empty needle's state fits a needle of one byte"),
     (Fault::EmptyRefused, "a call with an empty needle is refused by 3"),
+    (Fault::ScanCountedInRounds, "a scan's comparisons are counted in rounds of eight"),
 ];
 
 fn small(fault: Fault) -> Result<u64, Failure> {

@@ -89,6 +89,7 @@ impl Run<'_> {
         // A third letter lets the fingerprint say no; the others let it say yes falsely.
         self.pairs((b"ab", 4), (b"abc", 7))?;
         self.pairs(words::ALIKE.0, words::ALIKE.1)?;
+        exhaustive::scans().try_for_each(|case| self.check(case))?;
         self.handed_in(size.state_needle)?;
         self.told_again()?;
         self.empty_needle()?;

@@ -118,6 +118,26 @@ pub fn empty_calls() -> impl Iterator<Item = (Case, bool)> {
     })
 }
 
+/// One byte in texts of up to 80 bytes: nowhere, at each place, and at each two places.
+pub fn scans() -> impl Iterator<Item = Case> {
+    (0..=80).flat_map(|n| {
+        let hits = (0..n).flat_map(move |first| (first..n).map(move |second| [first, second]));
+        let texts = hits.map(move |hits| {
+            let mut text = words::power(b"a", n);
+            hits.iter().for_each(|&hit| text[hit] = b'b');
+            text
+        });
+        let all = std::iter::once(words::power(b"a", n)).chain(texts);
+        all.flat_map(|haystack| {
+            [false, true].map(|backward| Case::Search {
+                needle: b"b".to_vec(),
+                haystack: haystack.clone(),
+                backward,
+            })
+        })
+    })
+}
+
 pub fn cases() -> impl Iterator<Item = Case> {
     let empty = empty_walks().chain(empty_calls().map(|(case, _)| case));
     suffixes().chain(walks()).chain(handed_in()).chain(empty)

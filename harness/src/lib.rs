@@ -6,6 +6,8 @@ pub mod compare;
 pub mod examples;
 pub mod exhaustive;
 pub mod failure;
+#[cfg(feature = "port")]
+pub mod fence;
 pub mod judge;
 pub mod limits;
 pub mod line;

@@ -30,6 +30,7 @@ pub enum Fault {
     RejectPastEnd,
     EmptyFitsOneByte,
     EmptyRefused,
+    ScanCountedInRounds,
 }
 
 pub struct Model {
@@ -547,6 +548,9 @@ impl Model {
                 counts.comparisons += 1;
             }
             if hit {
+                if self.fault == Fault::ScanCountedInRounds {
+                    counts.comparisons = counts.comparisons.next_multiple_of(8);
+                }
                 return (Some(place), counts);
             }
         }

@@ -17,17 +17,20 @@ pub enum Found {
 }
 
 /// The first occurrence of `pattern` in `text`.
+#[inline]
 pub fn find(text: &[u8], pattern: &[u8]) -> Found {
     search(false, text, pattern, std::ptr::dangling())
 }
 
 /// The last occurrence of `pattern` in `text`.
+#[inline]
 pub fn rfind(text: &[u8], pattern: &[u8]) -> Found {
     search(true, text, pattern, std::ptr::dangling())
 }
 
 /// Either, with the pointer that is passed for an empty slice. It is not read, so it may be
 /// any, null too.
+#[inline]
 pub fn search(backward: bool, text: &[u8], pattern: &[u8], empty: *const u8) -> Found {
     let start = |slice: &[u8]| if slice.is_empty() { empty } else { slice.as_ptr() };
     let function = if backward { twoway_rfind } else { twoway_find };
@@ -35,6 +38,7 @@ pub fn search(backward: bool, text: &[u8], pattern: &[u8], empty: *const u8) -> 
     found(unsafe { function(start(text), text.len(), start(pattern), pattern.len()) })
 }
 
+#[inline]
 fn found(answer: u64) -> Found {
     match answer {
         NONE_CODE => Found::Nothing,

@@ -4,6 +4,7 @@
 use harness::case::{Case, Word};
 use harness::examples;
 use harness::failure::{Failure, Outcome};
+use harness::fence::{self, Fence};
 use harness::judge;
 use harness::limits::NEEDLE_BOUND;
 use harness::model::RULES;
@@ -46,6 +47,7 @@ struct Run {
 pub fn differ(seed: u64, long: bool) -> Result<String, String> {
     let size = if long { LONG_RUN } else { SHORT_RUN };
     let mut run = Run { cases: 0 };
+    fence::report();
     let outcome = run.all(&size, &mut Dice::new(seed));
     let outcome = outcome.map_err(|failure| failure.smallest(verdict));
     // Too large to be made smaller step by step.
@@ -100,6 +102,7 @@ impl Run {
         self.pairs((b"abc", size.three_letters.0), (b"abc", size.three_letters.1))?;
         self.pairs(words::ALIKE.0, words::ALIKE.1)?;
         self.empty()?;
+        self.scans()?;
         for _ in 0..size.edges {
             self.edges(dice)?;
         }
@@ -158,6 +161,41 @@ impl Run {
                     self.one(b"", &word, backward, empty)?;
                 }
             }
+        }
+        Ok(())
+    }
+
+    /// One byte in texts of up to 80 bytes at both edges of memory that can be read, and up to 63
+    /// bytes away from them, so at every alignment. All around a text is the byte searched for.
+    fn scans(&mut self) -> Outcome {
+        let mut fence = Fence::new();
+        for last in [false, true] {
+            for away in 0..64 {
+                // Bytes that differ from it in one bit, or by one, are easily taken for it.
+                let byte: u8 = [0x00, 0x61, 0x80, 0xff][away % 4];
+                let others = [byte ^ 0x01, byte ^ 0x80, byte.wrapping_add(1), byte ^ 0xff];
+                for length in 0..=80 {
+                    fence.part(length + 2 * away, 0, last).fill(byte);
+                    let text = fence.part(length, away, last);
+                    text.iter_mut().zip(others.iter().cycle()).for_each(|(x, other)| *x = *other);
+                    self.hits(byte, text)?;
+                }
+            }
+        }
+        Ok(())
+    }
+
+    /// A text that does not hold the byte: so, with it at each place, and at each two places.
+    fn hits(&mut self, byte: u8, text: &mut [u8]) -> Outcome {
+        self.both(&[byte], text)?;
+        for first in 0..text.len() {
+            let before = std::mem::replace(&mut text[first], byte);
+            for second in first..text.len() {
+                let other = std::mem::replace(&mut text[second], byte);
+                self.both(&[byte], text)?;
+                text[second] = other;
+            }
+            text[first] = before;
         }
         Ok(())
     }

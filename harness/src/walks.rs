@@ -33,8 +33,9 @@ pub fn differ(program: &str, seed: u64, long: bool) -> Result<String, String> {
         }
         lines += held(program, &input)?;
     }
+    lines += every(program, exhaustive::scans())?;
     if long {
-        lines += every_small(program)?;
+        lines += every(program, exhaustive::cases())?;
     }
     Ok(format!(
         "{lines} lines in {batches} batches{}",
@@ -42,9 +43,9 @@ pub fn differ(program: &str, seed: u64, long: bool) -> Result<String, String> {
     ))
 }
 
-/// Every small case, so many lines at a time.
-fn every_small(program: &str) -> Result<usize, String> {
-    let mut cases = exhaustive::cases().peekable();
+/// All of the cases, so many lines at a time.
+fn every(program: &str, cases: impl Iterator<Item = Case>) -> Result<usize, String> {
+    let mut cases = cases.peekable();
     let mut count = 0;
     while cases.peek().is_some() {
         let some = cases.by_ref().take(AT_A_TIME).map(|case| line::show_case(&case) + "\n");

@@ -21,12 +21,25 @@ static uint64_t not_last(uint64_t answer, size_t text_length, size_t pattern_len
     return last ? TWOWAY_NONE : answer;
 }
 
+/* 4: a single byte is reported at the first byte of its eight. */
+static uint64_t rounded(uint64_t answer, size_t text_length, size_t pattern_length) {
+    return pattern_length == 1 && answer < text_length ? answer - answer % 8 : answer;
+}
+
+/* 5, 6: for a single byte, the byte behind the text is read, or the one before it. */
+static void read_outside(const uint8_t *text, size_t text_length, size_t pattern_length) {
+    if (pattern_length == 1 && text_length > 0)
+        (void)*(const volatile uint8_t *)(FAULT == 5 ? text + text_length : text - 1);
+}
+
 uint64_t twoway_find(const uint8_t *text, size_t text_length,
                      const uint8_t *pattern, size_t pattern_length) {
     uint64_t answer = right_find(text, text_length, pattern, pattern_length);
     switch (FAULT) {
     case 1: return one_less(answer, text_length);
     case 2: return not_last(answer, text_length, pattern_length);
+    case 4: return rounded(answer, text_length, pattern_length);
+    case 5: read_outside(text, text_length, pattern_length); return answer;
     default: return answer;
     }
 }
@@ -38,6 +51,7 @@ uint64_t twoway_rfind(const uint8_t *text, size_t text_length,
     switch (FAULT) {
     case 1: return one_less(answer, text_length);
     case 3: return right_find(text, text_length, pattern, pattern_length);
+    case 6: read_outside(text, text_length, pattern_length); return answer;
     default: return answer;
     }
 }

@@ -1,4 +1,4 @@
--- What a scan shows as it goes, in either direction, and what its answer means.
+-- What a scan's answer is and means, in either direction, once its first x, or the end, is known: proofs/Passes.antt has the way there.
 -- Assumes nothing.
 use Prim.Native.Nat.{ℕ, _+_, _-_, _<_, _≤_}
 use mathlib.Core.Path.{_≡_, refl, sym, _∙_, ap, subst}
@@ -6,45 +6,34 @@ use mathlib.Core.Bool.{Bool, true, false, cond}
 use mathlib.Core.List.{List, [], _∷_}
 use mathlib.Core.Option.{Option, none, some}
 use native.Mathlib.Omega.{arith}
-use borrow.Author.Count.{below-more}
-use lib.Dec.{ltb, eqb}
+use lib.Dec.{ltb}
 use lib.ListN.{length, getD}
-use borrow.Author.Tests.{lt-ltb, le-ltb, eq-eqb, ne-eqb, ltb-true, ltb-false, eqb-true, eqb-false}
+use borrow.Author.Tests.{lt-ltb, le-ltb, ltb-true, ltb-false, eqb-true, eqb-false}
 use Rattle.words.specs.Word.{Word, front, back}
 use Rattle.words.specs.Choice.{Least, Greatest, None, FindsLeast, FindsGreatest}
 use Rattle.words.specs.Occurs.{Occurs}
-use Rattle.words.proofs.Tests.{First, first-is, least-at, least-none}
+use Rattle.scan.proofs.Passes.{first}
 use Rattle.scan.specs.Scanned.{placeOf, ScanTold, before, scanned, fromFront, fromBack}
 use Rattle.scan.specs.declared.Found.{Found}
 use Rattle.scan.specs.declared.Found.the-variants.{At, Nothing}
 
 -- w has k letters, and none of its first k is x
-pub record Missed (x : ℕ) (w : Word) (k : ℕ) : Type 0 where
-  pub inside : k ≤ w .size
-  pub other : (j : ℕ) → j < k → w .letter j ≡ x → ⊥
-
--- a is the letter that the code read after k letters
-module _ {x : ℕ} {w : Word} where
-  pub missed-none : Missed x w 0
-  missed-none = record { inside = omega arith; other = λ j h. absurd (omega arith) }
-
-  pub missed-more : {k a : ℕ} → (a ≡ x → ⊥) → a ≡ w .letter k → Missed x w k → k < w .size → Missed x w (k + 1)
-  missed-more q e m h =
-      record { inside = omega arith; other = below-more _ _ (m .other) (λ z. q (e ∙ z)) }
-
-  -- a scan that passed k letters and stands at x, and one that passed them all
-  scanned-hit : (place : ℕ → ℕ) {k a : ℕ} → a ≡ x → a ≡ w .letter k → Missed x w k → k < w .size → scanned x w place ≡ record { place = some (place k); comparisons = k + 1 }
-  unfolding scanned before
-  scanned-hit place {k} q e m h =
-      rw (least-at (λ i. eqb (w .letter i) x) (w .size) k h (eq-eqb _ _ (sym e ∙ q)) (λ j hj. ne-eqb _ _ (m .other j hj)), lt-ltb k (w .size) h)
-
-  scanned-miss : (place : ℕ → ℕ) {k : ℕ} → Missed x w k → w .size ≤ k → scanned x w place ≡ record { place = none; comparisons = w .size }
-  unfolding scanned before
-  scanned-miss place m h =
-      rw (least-none (λ i. eqb (w .letter i) x) (w .size) (λ j hj. ne-eqb _ _ (m .other j (omega arith))), le-ltb (w .size) (w .size) (omega arith))
+record Missed (x : ℕ) (w : Word) (k : ℕ) : Type 0 where
+  inside : k ≤ w .size
+  other : (j : ℕ) → j < k → w .letter j ≡ x → ⊥
 
 module _ (x : ℕ) (w : Word) (place : ℕ → ℕ) where
-  -- a scan compares no byte twice
+  -- a scan that has passed all letters before the first x, and stands at it
+  scanned-hit : {k : ℕ} → k ≤ before x w → before x w < k + 1 → k < w .size → scanned x w place ≡ record { place = some (place k); comparisons = k + 1 }
+  unfolding scanned
+  scanned-hit {k} low high h = let here : before x w ≡ k = omega arith in rw (here, lt-ltb k (w .size) h)
+
+  -- and one that has passed them all
+  scanned-miss : w .size ≤ before x w → scanned x w place ≡ record { place = none; comparisons = w .size }
+  unfolding scanned
+  scanned-miss h = rw (le-ltb (before x w) (w .size) h)
+
+  -- a scan reports at most one comparison for each letter
   pub scan-few : scanned x w place .comparisons ≤ w .size
   unfolding scanned
   scan-few = go (ltb (before x w) (w .size)) refl
@@ -57,20 +46,17 @@ module _ (x : ℕ) (w : Word) (place : ℕ → ℕ) where
   -- what the rule's answer means, for any reading M of a place: a hit and a miss have to be shown
   means : (M : Option ℕ → Type 0) → ((k : ℕ) → k < w .size → w .letter k ≡ x → Missed x w k → M (some (place k))) → (Missed x w (w .size) → M none)
       → M (scanned x w place .place)
-  unfolding scanned before
+  unfolding scanned
   means M hit miss = go (ltb (before x w) (w .size)) refl
     where
-      passed : First (λ i. eqb (w .letter i) x) (w .size) 0 (before x w)
-      passed = first-is (λ i. eqb (w .letter i) x) (w .size) 0
-
       go : (b : Bool) → ltb (before x w) (w .size) ≡ b
           → M (cond {A = ScanTold} b (record { place = some (place (before x w)); comparisons = before x w + 1 }) (record { place = none; comparisons = w .size }) .place)
       go true e =
           let h = ltb-true (before x w) (w .size) e in
-          hit (before x w) h (eqb-true _ _ (passed .found (omega arith))) (record { inside = omega arith; other = λ j hj. eqb-false _ _ (passed .missed j (omega arith) hj) })
+          hit (before x w) h (eqb-true _ _ (first x w .found (omega arith))) (record { inside = omega arith; other = λ j hj. eqb-false _ _ (first x w .missed j (omega arith) hj) })
       go false e =
           let h = ltb-false (before x w) (w .size) e in
-          miss (record { inside = omega arith; other = λ j hj. eqb-false _ _ (passed .missed j (omega arith) (omega arith)) })
+          miss (record { inside = omega arith; other = λ j hj. eqb-false _ _ (first x w .missed j (omega arith) (omega arith)) })
 
 module _ (x : ℕ) (text : List ℕ) where
   abbrev Stands : ℕ → Type 0
@@ -106,26 +92,26 @@ module _ (x : ℕ) (text : List ℕ) where
       })
       (λ m j o. let f = o .fits in m .other (length text - (1 + j)) (omega arith) (ap (λ (y : ℕ). getD text y 0) (omega arith) ∙ is-letter j o))
 
-  -- What each return of a scan has to show: the rule's answer, and what it means.
+  -- What each return of a scan has to show, behind k letters passed: the rule's answer, and what it means.
   front-settled : (r : ScanTold) → fromFront x text ≡ r → (r ≡ fromFront x text) × FindsLeast Stands (r .place)
   front-settled r e = (sym e, subst (λ (y : ScanTold). FindsLeast Stands (y .place)) e front-means)
+
+  pub front-hit : {k : ℕ} → k ≤ before x (front text) → before x (front text) < k + 1 → k < length text
+      → (record { place = some k; comparisons = k + 1 } ≡ fromFront x text) × Least Stands k
+  front-hit low high h = front-settled _ (scanned-hit x (front text) (λ k. k) low high h)
+
+  pub front-miss : length text ≤ before x (front text) → (record { place = none; comparisons = length text } ≡ fromFront x text) × None Stands
+  front-miss h = front-settled _ (scanned-miss x (front text) (λ k. k) h)
 
   back-settled : (r : ScanTold) → fromBack x text ≡ r → (r ≡ fromBack x text) × FindsGreatest Stands (r .place)
   back-settled r e = (sym e, subst (λ (y : ScanTold). FindsGreatest Stands (y .place)) e back-means)
 
-  pub front-hit : {k a : ℕ} → Missed x (front text) k → k < length text → a ≡ x → a ≡ getD text k 0
-      → (record { place = some k; comparisons = k + 1 } ≡ fromFront x text) × Least Stands k
-  front-hit m h q e = front-settled _ (scanned-hit (λ k. k) q e m h)
-
-  pub front-miss : {k : ℕ} → Missed x (front text) k → length text ≤ k → (record { place = none; comparisons = length text } ≡ fromFront x text) × None Stands
-  front-miss m h = front-settled _ (scanned-miss (λ k. k) m h)
-
-  pub back-hit : {k a : ℕ} → Missed x (back text) k → k < length text → a ≡ x → a ≡ getD text (length text - (1 + k)) 0
+  pub back-hit : {k : ℕ} → k ≤ before x (back text) → before x (back text) < k + 1 → k < length text
       → (record { place = some (length text - (1 + k)); comparisons = k + 1 } ≡ fromBack x text) × Greatest Stands (length text - (1 + k))
-  back-hit m h q e = back-settled _ (scanned-hit (λ k. length text - (1 + k)) q e m h)
+  back-hit low high h = back-settled _ (scanned-hit x (back text) (λ k. length text - (1 + k)) low high h)
 
-  pub back-miss : {k : ℕ} → Missed x (back text) k → length text ≤ k → (record { place = none; comparisons = length text } ≡ fromBack x text) × None Stands
-  back-miss m h = back-settled _ (scanned-miss (λ k. length text - (1 + k)) m h)
+  pub back-miss : length text ≤ before x (back text) → (record { place = none; comparisons = length text } ≡ fromBack x text) × None Stands
+  back-miss h = back-settled _ (scanned-miss x (back text) (λ k. length text - (1 + k)) h)
 
 -- what a scan's answer says loses nothing
 pub place-loses-nothing : (a b : Found) → placeOf a ≡ placeOf b → a ≡ b

@@ -13,6 +13,9 @@ extern "C" {
         offset: i64,
     ) -> *mut c_void;
     fn mprotect(at: *mut c_void, length: usize, access: c_int) -> c_int;
+    fn signal(number: c_int, handler: extern "C" fn(c_int)) -> usize;
+    fn write(file: c_int, bytes: *const c_void, count: usize) -> isize;
+    fn _exit(status: c_int) -> !;
 }
 
 // Linux on x86-64, where the C library runs.
@@ -20,12 +23,20 @@ const PAGE: usize = 4096;
 const NO_ACCESS: c_int = 0;
 const READ_WRITE: c_int = 3;
 const PRIVATE_ANONYMOUS: c_int = 0x22;
+const SEGMENTATION_FAULT: c_int = 11;
+const STANDARD_OUTPUT: c_int = 1;
 
 /// The most bytes that a fence holds.
 const ROOM: usize = 1 << 20;
 
 /// Points to `ROOM` bytes between two pages that can't be read.
 pub struct Fence(*mut u8);
+
+impl Default for Fence {
+    fn default() -> Fence {
+        Fence::new()
+    }
+}
 
 impl Fence {
     pub fn new() -> Fence {
@@ -41,12 +52,30 @@ impl Fence {
         Fence(start)
     }
 
+    /// So many bytes with the last of them so far before the edge, or the first so far behind it.
+    pub fn part(&mut self, length: usize, away: usize, last: bool) -> &mut [u8] {
+        let room = unsafe { std::slice::from_raw_parts_mut(self.0, ROOM) };
+        let start = if last { ROOM - length - away } else { away };
+        &mut room[start..start + length]
+    }
+
     /// A copy of the bytes that ends at the edge, or starts there.
     pub fn holding(&mut self, bytes: &[u8], last: bool) -> &[u8] {
-        let room = unsafe { std::slice::from_raw_parts_mut(self.0, ROOM) };
-        let start = if last { ROOM - bytes.len() } else { 0 };
-        let place = &mut room[start..start + bytes.len()];
+        let place = self.part(bytes.len(), 0, last);
         place.copy_from_slice(bytes);
         place
+    }
+}
+
+/// Has a read past an edge reported as a difference; otherwise it ends the program without a word.
+pub fn report() {
+    unsafe { signal(SEGMENTATION_FAULT, outside) };
+}
+
+extern "C" fn outside(_: c_int) {
+    const SAID: &[u8] = b"DIFFERENCE: a byte outside of a text or a pattern was read\n";
+    unsafe {
+        write(STANDARD_OUTPUT, SAID.as_ptr().cast(), SAID.len());
+        _exit(1);
     }
 }
