@@ -118,17 +118,23 @@ pub fn empty_calls() -> impl Iterator<Item = (Case, bool)> {
     })
 }
 
-/// One byte in texts of up to 80 bytes: nowhere, at each place, and at each two places.
+/// The most bytes of the texts that are scanned for one byte: a block, a round and a byte are in it,
+/// and more than one of each.
+pub const SCANNED: usize = 80;
+
+/// Where one byte stands in texts of so many bytes: nowhere, at each place (then both are the
+/// same), and at each two places.
+pub fn hits(n: usize) -> impl Iterator<Item = Option<[usize; 2]>> {
+    let pairs = (0..n).flat_map(move |first| (first..n).map(move |second| Some([first, second])));
+    std::iter::once(None).chain(pairs)
+}
+
+/// Both searches for one byte in all of these texts.
 pub fn scans() -> impl Iterator<Item = Case> {
-    (0..=80).flat_map(|n| {
-        let hits = (0..n).flat_map(move |first| (first..n).map(move |second| [first, second]));
-        let texts = hits.map(move |hits| {
-            let mut text = words::power(b"a", n);
-            hits.iter().for_each(|&hit| text[hit] = b'b');
-            text
-        });
-        let all = std::iter::once(words::power(b"a", n)).chain(texts);
-        all.flat_map(|haystack| {
+    (0..=SCANNED).flat_map(|n| {
+        hits(n).flat_map(move |hits| {
+            let mut haystack = words::power(b"a", n);
+            hits.into_iter().flatten().for_each(|hit| haystack[hit] = b'b');
             [false, true].map(|backward| Case::Search {
                 needle: b"b".to_vec(),
                 haystack: haystack.clone(),

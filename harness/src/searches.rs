@@ -3,6 +3,7 @@
 
 use harness::case::{Case, Word};
 use harness::examples;
+use harness::exhaustive::{self, SCANNED};
 use harness::failure::{Failure, Outcome};
 use harness::fence::{self, Fence};
 use harness::judge;
@@ -165,37 +166,33 @@ impl Run {
         Ok(())
     }
 
-    /// One byte in texts of up to 80 bytes at both edges of memory that can be read, and up to 63
-    /// bytes away from them, so at every alignment. All around a text is the byte searched for.
+    /// One byte in short texts at both edges of memory that can be read, and up to 63 bytes away
+    /// from them, so at every alignment. All around a text is the byte searched for.
     fn scans(&mut self) -> Outcome {
         let mut fence = Fence::new();
         for last in [false, true] {
             for away in 0..64 {
-                // Bytes that differ from it in one bit, or by one, are easily taken for it.
                 let byte: u8 = [0x00, 0x61, 0x80, 0xff][away % 4];
-                let others = [byte ^ 0x01, byte ^ 0x80, byte.wrapping_add(1), byte ^ 0xff];
-                for length in 0..=80 {
+                for length in 0..=SCANNED {
                     fence.part(length + 2 * away, 0, last).fill(byte);
-                    let text = fence.part(length, away, last);
-                    text.iter_mut().zip(others.iter().cycle()).for_each(|(x, other)| *x = *other);
-                    self.hits(byte, text)?;
+                    self.scan(byte, fence.part(length, away, last))?;
                 }
             }
         }
         Ok(())
     }
 
-    /// A text that does not hold the byte: so, with it at each place, and at each two places.
-    fn hits(&mut self, byte: u8, text: &mut [u8]) -> Outcome {
-        self.both(&[byte], text)?;
-        for first in 0..text.len() {
-            let before = std::mem::replace(&mut text[first], byte);
-            for second in first..text.len() {
-                let other = std::mem::replace(&mut text[second], byte);
-                self.both(&[byte], text)?;
-                text[second] = other;
-            }
-            text[first] = before;
+    /// One byte in a text: nowhere, and wherever it can stand once or twice.
+    fn scan(&mut self, byte: u8, text: &mut [u8]) -> Outcome {
+        // Bytes that differ from it in one bit, or by one, are easily taken for it.
+        let others = [byte ^ 0x01, byte ^ 0x80, byte.wrapping_add(1), byte ^ 0xff];
+        let other = |place: usize| others[place % 4];
+        (0..text.len()).for_each(|place| text[place] = other(place));
+        for hits in exhaustive::hits(text.len()) {
+            let hits = hits.iter().flatten();
+            hits.clone().for_each(|&hit| text[hit] = byte);
+            self.both(&[byte], text)?;
+            hits.for_each(|&hit| text[hit] = other(hit));
         }
         Ok(())
     }

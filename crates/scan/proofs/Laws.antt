@@ -58,6 +58,10 @@ module _ (x : ℕ) (w : Word) (place : ℕ → ℕ) where
           let h = ltb-false (before x w) (w .size) e in
           miss (record { inside = omega arith; other = λ j hj. eqb-false _ _ (first x w .missed j (omega arith) (omega arith)) })
 
+-- what the rule's answer means, an answer that equals it means
+settled : (M : Option ℕ → Type 0) {t r : ScanTold} → M (t .place) → t ≡ r → (r ≡ t) × M (r .place)
+settled M m e = (sym e, subst (λ (y : ScanTold). M (y .place)) e m)
+
 module _ (x : ℕ) (text : List ℕ) where
   abbrev Stands : ℕ → Type 0
   Stands k = Occurs (front (x ∷ [])) (front text) k
@@ -93,25 +97,19 @@ module _ (x : ℕ) (text : List ℕ) where
       (λ m j o. let f = o .fits in m .other (length text - (1 + j)) (omega arith) (ap (λ (y : ℕ). getD text y 0) (omega arith) ∙ is-letter j o))
 
   -- What each return of a scan has to show, behind k letters passed: the rule's answer, and what it means.
-  front-settled : (r : ScanTold) → fromFront x text ≡ r → (r ≡ fromFront x text) × FindsLeast Stands (r .place)
-  front-settled r e = (sym e, subst (λ (y : ScanTold). FindsLeast Stands (y .place)) e front-means)
-
   pub front-hit : {k : ℕ} → k ≤ before x (front text) → before x (front text) < k + 1 → k < length text
       → (record { place = some k; comparisons = k + 1 } ≡ fromFront x text) × Least Stands k
-  front-hit low high h = front-settled _ (scanned-hit x (front text) (λ k. k) low high h)
+  front-hit low high h = settled (FindsLeast Stands) front-means (scanned-hit x (front text) (λ k. k) low high h)
 
   pub front-miss : length text ≤ before x (front text) → (record { place = none; comparisons = length text } ≡ fromFront x text) × None Stands
-  front-miss h = front-settled _ (scanned-miss x (front text) (λ k. k) h)
-
-  back-settled : (r : ScanTold) → fromBack x text ≡ r → (r ≡ fromBack x text) × FindsGreatest Stands (r .place)
-  back-settled r e = (sym e, subst (λ (y : ScanTold). FindsGreatest Stands (y .place)) e back-means)
+  front-miss h = settled (FindsLeast Stands) front-means (scanned-miss x (front text) (λ k. k) h)
 
   pub back-hit : {k : ℕ} → k ≤ before x (back text) → before x (back text) < k + 1 → k < length text
       → (record { place = some (length text - (1 + k)); comparisons = k + 1 } ≡ fromBack x text) × Greatest Stands (length text - (1 + k))
-  back-hit low high h = back-settled _ (scanned-hit x (back text) (λ k. length text - (1 + k)) low high h)
+  back-hit low high h = settled (FindsGreatest Stands) back-means (scanned-hit x (back text) (λ k. length text - (1 + k)) low high h)
 
   pub back-miss : length text ≤ before x (back text) → (record { place = none; comparisons = length text } ≡ fromBack x text) × None Stands
-  back-miss h = back-settled _ (scanned-miss x (back text) (λ k. length text - (1 + k)) h)
+  back-miss h = settled (FindsGreatest Stands) back-means (scanned-miss x (back text) (λ k. length text - (1 + k)) h)
 
 -- what a scan's answer says loses nothing
 pub place-loses-nothing : (a b : Found) → placeOf a ≡ placeOf b → a ≡ b
