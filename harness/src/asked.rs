@@ -21,7 +21,7 @@ fn fields(state: &State) -> probe::Fields {
     }
 }
 
-fn state(m: usize, n: usize, fields: &probe::Fields) -> State {
+fn state(m: usize, n: usize, mode: Mode, fields: &probe::Fields) -> State {
     let kind = Kind::TwoWay(TwoWay {
         c: fields.crit_pos,
         b: fields.crit_pos_back,
@@ -32,7 +32,7 @@ fn state(m: usize, n: usize, fields: &probe::Fields) -> State {
             Some((forward, backward)) => Memory::Short { forward, backward },
         },
     });
-    State { m, n, position: fields.position, end: fields.end, kind }
+    State { m, n, position: fields.position, end: fields.end, mode, kind }
 }
 
 fn stepped(step: probe::Step) -> Answer {
@@ -47,21 +47,40 @@ fn matched(found: Option<(usize, usize)>) -> Answer {
     found.map_or(Answer::None, |(a, b)| Answer::Match(a, b))
 }
 
-fn called(call: Call, fields: &mut probe::Fields, needle: &[u8], haystack: &[u8]) -> Answer {
-    match call {
+/// The Rust has no modes. In overlapping mode it is put behind a match as its notes say, and a step
+/// is refused before it is asked.
+fn called(
+    call: Call,
+    mode: Mode,
+    fields: &mut probe::Fields,
+    needle: &[u8],
+    haystack: &[u8],
+) -> Answer {
+    if mode.refuses(call) {
+        return Answer::Refused(STEP_OVERLAPPING);
+    }
+    let answer = match call {
         Call::Step => stepped(fields.step(needle, haystack)),
         Call::StepBack => stepped(fields.step_back(needle, haystack)),
         Call::Next => matched(fields.next_match(needle, haystack)),
         Call::NextBack => matched(fields.next_match_back(needle, haystack)),
+    };
+    match (mode, answer) {
+        (Mode::Overlapping, Answer::Match(_, end)) if call.is_backward() => {
+            fields.overlap_back(end)
+        }
+        (Mode::Overlapping, Answer::Match(start, _)) => fields.overlap(start, needle),
+        _ => {}
     }
+    answer
 }
 
-fn walked(needle: &[u8], haystack: &[u8], script: &[Call]) -> Reply {
+fn walked(needle: &[u8], haystack: &[u8], mode: Mode, script: &[Call]) -> Reply {
     let mut fields = probe::Fields::prepare(needle, haystack.len());
     let preparing = counts().preparing;
-    let one = |&call: &Call| (called(call, &mut fields, needle, haystack), counts());
+    let one = |&call: &Call| (called(call, mode, &mut fields, needle, haystack), counts());
     let calls = script.iter().map(one).collect();
-    Reply::Walked { preparing, calls, state: state(needle.len(), haystack.len(), &fields) }
+    Reply::Walked { preparing, calls, state: state(needle.len(), haystack.len(), mode, &fields) }
 }
 
 /// Only for cases that 01 does not refuse: the Rust has no refusals.
@@ -75,8 +94,8 @@ pub fn reply(case: &Case) -> Reply {
             let start = TwoWaySearcher::reverse_maximal_suffix(word, *known, *greater);
             Reply::ReverseSuffix { start, rounds: counts().preparing }
         }
-        Case::Prepare { needle, n } => {
-            let state = state(needle.len(), *n, &probe::Fields::prepare(needle, *n));
+        Case::Prepare { needle, n, mode } => {
+            let state = state(needle.len(), *n, *mode, &probe::Fields::prepare(needle, *n));
             Reply::Prepared { state, preparing: counts().preparing }
         }
         Case::Search { needle, haystack, backward } => {
@@ -86,10 +105,10 @@ pub fn reply(case: &Case) -> Reply {
         }
         Case::Call { call, needle, haystack, state: before } => {
             let mut fields = fields(before);
-            let answer = called(*call, &mut fields, needle, haystack);
-            let state = state(needle.len(), haystack.len(), &fields);
+            let answer = called(*call, before.mode, &mut fields, needle, haystack);
+            let state = state(needle.len(), haystack.len(), before.mode, &fields);
             Reply::Called(Called { answer, state, counts: counts() })
         }
-        Case::Walk { needle, haystack, script } => walked(needle, haystack, script),
+        Case::Walk { needle, haystack, mode, script } => walked(needle, haystack, *mode, script),
     }
 }

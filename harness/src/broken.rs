@@ -4,7 +4,7 @@ use crate::compare::Run;
 use crate::failure::Failure;
 use crate::model::{Fault, Model};
 
-const FAULTS: [(Fault, &str); 20] = [
+const FAULTS: [(Fault, &str); 29] = [
     (Fault::DifferenceNotCounted, "the differing comparison is not counted"),
     (Fault::MemoryKeptAfterSkip, "forward memory is kept after a fingerprint skip"),
     (Fault::MemoryKeptAfterRightDifference, "forward memory is kept after a right difference"),
@@ -21,18 +21,27 @@ const FAULTS: [(Fault, &str); 20] = [
     (Fault::NarrowFingerprint, "the fingerprint takes a byte AND 31"),
     (Fault::KnownPeriodBeforeRound, "the known period is tested before the round"),
     (Fault::BackwardMemoryIndexIncluded, "backward compares up to memory included"),
-    (Fault::RefusalsInOtherOrder, "the refusals are checked from 4 to 1"),
+    (Fault::RefusalsInOtherOrder, "the refusals are checked from 5 to 1"),
     (Fault::DoneFlipsFlag, "an empty needle's flag flips again after Done"),
     (Fault::OneFlag, "both directions of an empty needle share one flag"),
     (Fault::RejectPastEnd, "an empty needle's walk ends with Reject(n, n+1)"),
     (Fault::EmptyFitsOneByte, "an empty needle's state fits a needle of one byte"),
     (Fault::EmptyRefused, "a call with an empty needle is refused by 3"),
     (Fault::ScanCountedInRounds, "a scan's comparisons are counted in rounds of eight"),
+    (Fault::MatchMovesByOne, "an overlapping match moves by 1"),
+    (Fault::MatchMovesByNeedle, "an overlapping match moves by m"),
+    (Fault::MatchForgets, "an overlapping match sets forward memory 0"),
+    (Fault::BackwardMatchForgets, "an overlapping match sets backward memory m"),
+    (Fault::BackwardMatchKeepsRest, "an overlapping match sets backward memory m-p"),
+    (Fault::LongMatchMovesBySmallestPeriod, "Long's match moves by the smallest period"),
+    (Fault::StepNotRefused, "a step in overlapping mode is not refused"),
+    (Fault::StepRefusedBeforeFit, "refusal 5 is checked before 4"),
+    (Fault::CallFlipsMode, "a call changes the mode"),
 ];
 
 fn small(fault: Fault) -> Result<u64, Failure> {
     let model = Model { fault };
-    let mut run = Run { model: &model, cases: 0 };
+    let mut run = Run::new(&model);
     run.small().map(|()| run.cases)
 }
 

@@ -1,5 +1,7 @@
 //! What is asked and what is answered, in the words of the documents 01 and 02.
 
+use std::ops::AddAssign;
+
 pub type Word = Vec<u8>;
 
 #[derive(Clone, Copy, Debug, PartialEq, Eq)]
@@ -26,6 +28,23 @@ pub enum Kind {
     Empty { forward: bool, backward: bool },
 }
 
+/// "The mode is chosen at preparing." Overlapping is 02's request [3]: next match lists every
+/// occurrence.
+#[derive(Clone, Copy, Debug, PartialEq, Eq)]
+pub enum Mode {
+    NonOverlapping,
+    Overlapping,
+}
+
+impl Mode {
+    pub const ALL: [Mode; 2] = [Mode::NonOverlapping, Mode::Overlapping];
+
+    /// "A step call in this mode is refused with new number 5"
+    pub fn refuses(self, call: Call) -> bool {
+        self == Mode::Overlapping && call.is_step()
+    }
+}
+
 /// The record of a walk.
 #[derive(Clone, Copy, Debug, PartialEq, Eq)]
 pub struct State {
@@ -33,6 +52,7 @@ pub struct State {
     pub n: usize,
     pub position: usize,
     pub end: usize,
+    pub mode: Mode,
     pub kind: Kind,
 }
 
@@ -61,6 +81,14 @@ pub struct Counts {
     pub preparing: u64,
     pub comparisons: u64,
     pub tests: u64,
+}
+
+impl AddAssign for Counts {
+    fn add_assign(&mut self, more: Counts) {
+        self.preparing += more.preparing;
+        self.comparisons += more.comparisons;
+        self.tests += more.tests;
+    }
 }
 
 /// The four calls that take a state.
@@ -96,10 +124,10 @@ pub struct Called {
 pub enum Case {
     Suffix { word: Word, greater: bool },
     ReverseSuffix { word: Word, known: usize, greater: bool },
-    Prepare { needle: Word, n: usize },
+    Prepare { needle: Word, n: usize, mode: Mode },
     Search { needle: Word, haystack: Word, backward: bool },
     Call { call: Call, needle: Word, haystack: Word, state: State },
-    Walk { needle: Word, haystack: Word, script: Vec<Call> },
+    Walk { needle: Word, haystack: Word, mode: Mode, script: Vec<Call> },
 }
 
 #[derive(Clone, Debug, PartialEq, Eq)]

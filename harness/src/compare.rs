@@ -15,11 +15,41 @@ use crate::retold::EmptyNeedle;
 use crate::scripts;
 use crate::states;
 use crate::words::{self, Dice, Letters};
+use std::fmt;
 
 /// Counts the cases tried on one model.
 pub struct Run<'a> {
-    pub model: &'a Model,
+    model: &'a Model,
     pub cases: u64,
+    pub greatest: Share,
+    pub greatest_twice: Share,
+}
+
+/// The comparisons of an overlapping walk one way, beside the 2n-m that demand 3 allows. The
+/// greatest share is kept of all such walks, and of those where n is at least 2m: where n is m, a
+/// match alone takes all that is allowed.
+#[derive(Clone, Copy, Default)]
+pub struct Share {
+    comparisons: u64,
+    bound: u64,
+}
+
+impl fmt::Display for Share {
+    fn fmt(&self, to: &mut fmt::Formatter) -> fmt::Result {
+        write!(to, "{} of 2n-m = {}", self.comparisons, self.bound)
+    }
+}
+
+impl Share {
+    /// The greater one; of equal ones that of the longer walk.
+    fn or(self, other: Share) -> Share {
+        let key = |one: Share, beside: Share| (one.comparisons * beside.bound, one.bound);
+        if key(other, self) > key(self, other) {
+            other
+        } else {
+            self
+        }
+    }
 }
 
 /// How far the exhaustive parts go and how many seeded inputs are tried.
@@ -64,28 +94,50 @@ pub const LONG_RUN: Size = Size {
     large: 2_000,
 };
 
-/// The whole comparison. Gives the number of cases.
-pub fn compare(seed: u64, size: &Size) -> Result<u64, Failure> {
-    let mut run = Run { model: &RULES, cases: 0 };
+/// The whole comparison.
+pub fn compare(seed: u64, size: &Size) -> Result<Run<'static>, Failure> {
+    let mut run = Run::new(&RULES);
     // These are small already, or too large to be made smaller step by step.
     run.examples()?;
     run.bounds()?;
     run.longest_needles()?;
     let outcome = run.all(size, &mut Dice::new(seed));
-    outcome.map_err(|failure| failure.smallest(|case| verdict(run.model, case)))?;
-    Ok(run.cases)
+    outcome.map_err(|failure| failure.smallest(|case| verdict(run.model, case).map(drop)))?;
+    Ok(run)
 }
 
-fn verdict(model: &Model, case: &Case) -> Result<(), String> {
+fn verdict(model: &Model, case: &Case) -> Result<Reply, String> {
     let reply = judge(model, case)?;
-    meaning::check(case, &reply)
+    meaning::check(case, &reply)?;
+    Ok(reply)
 }
 
-impl Run<'_> {
+/// The walk of each call, and walks that change direction.
+fn whole_walks(needle: &[u8], haystack: &[u8]) -> [Vec<Call>; 7] {
+    use Call::*;
+    let rounds: [&[Call]; 7] = [
+        &[Step],
+        &[StepBack],
+        &[Next],
+        &[NextBack],
+        &[Step, StepBack],
+        &[Next, StepBack],
+        &[Step, NextBack],
+    ];
+    rounds.map(|round| scripts::whole(needle, haystack, Mode::NonOverlapping, round))
+}
+
+impl<'a> Run<'a> {
+    pub fn new(model: &'a Model) -> Run<'a> {
+        let (greatest, greatest_twice) = Default::default();
+        Run { model, cases: 0, greatest, greatest_twice }
+    }
+
     fn all(&mut self, size: &Size, dice: &mut Dice) -> Outcome {
         self.suffixes(b"ab", size.two_letters)?;
         self.suffixes(b"abc", size.three_letters)?;
         self.pairs((b"ab", size.needle), (b"ab", size.haystack))?;
+        self.overlapping((b"ab", size.needle), size.haystack + 1)?;
         // A third letter lets the fingerprint say no; the others let it say yes falsely.
         self.pairs((b"ab", 4), (b"abc", 7))?;
         self.pairs(words::ALIKE.0, words::ALIKE.1)?;
@@ -109,7 +161,29 @@ impl Run<'_> {
 
     fn check(&mut self, case: Case) -> Outcome {
         self.cases += 1;
-        verdict(self.model, &case).map_err(|why| Failure::new(case, why))
+        match verdict(self.model, &case) {
+            Ok(reply) => self.keep_shares(&case, &reply),
+            Err(why) => return Err(Failure::new(case, why)),
+        }
+        Ok(())
+    }
+
+    /// Those of an overlapping walk, if its needle has bytes and room.
+    fn keep_shares(&mut self, case: &Case, reply: &Reply) {
+        let (Case::Walk { script, .. }, Reply::Walked { calls, state, .. }) = (case, reply) else {
+            return;
+        };
+        let &State { m, n, mode, .. } = state;
+        if mode == Mode::Overlapping && (1..=n).contains(&m) {
+            for backward in [false, true] {
+                let comparisons = meaning::total(script, calls, backward).comparisons;
+                let share = Share { comparisons, bound: (2 * n - m) as u64 };
+                self.greatest = self.greatest.or(share);
+                if n >= 2 * m {
+                    self.greatest_twice = self.greatest_twice.or(share);
+                }
+            }
+        }
     }
 
     fn example(&mut self, case: Case, wanted: &str) -> Outcome {
@@ -133,9 +207,14 @@ impl Run<'_> {
                     self.check(Case::ReverseSuffix { word: word.clone(), known, greater })?;
                 }
             }
-            self.check(Case::Prepare { needle: word, n: 7 })?;
+            self.prepares(&word, 7)?;
         }
         Ok(())
+    }
+
+    fn prepares(&mut self, needle: &[u8], n: usize) -> Outcome {
+        let prepare = |mode| Case::Prepare { needle: needle.to_vec(), n, mode };
+        Mode::ALL.into_iter().try_for_each(|mode| self.check(prepare(mode)))
     }
 
     fn pairs(&mut self, needles: Letters, haystacks: Letters) -> Outcome {
@@ -145,25 +224,41 @@ impl Run<'_> {
         Ok(())
     }
 
-    /// Both searches, the walk of each call, and walks that change direction.
-    fn pair(&mut self, needle: &[u8], haystack: &[u8]) -> Outcome {
-        use Call::*;
-        self.searches(needle, haystack)?;
-        let rounds: [&[Call]; 7] = [
-            &[Step],
-            &[StepBack],
-            &[Next],
-            &[NextBack],
-            &[Step, StepBack],
-            &[Next, StepBack],
-            &[Step, NextBack],
-        ];
-        for round in rounds {
-            let script = scripts::whole(needle, haystack, round);
-            let (needle, haystack) = (needle.to_vec(), haystack.to_vec());
-            self.check(Case::Walk { needle, haystack, script })?;
+    /// Overlapping walks, in all haystacks over the needles' letters of one length.
+    fn overlapping(&mut self, needles: Letters, n: usize) -> Outcome {
+        for needle in words::up_to(needles.0, needles.1) {
+            for haystack in words::all(needles.0, n) {
+                self.overlapping_walks(&needle, &haystack)?;
+            }
         }
         Ok(())
+    }
+
+    /// Both searches, and walks in both modes.
+    fn pair(&mut self, needle: &[u8], haystack: &[u8]) -> Outcome {
+        self.searches(needle, haystack)?;
+        for script in whole_walks(needle, haystack) {
+            self.walk(needle, haystack, Mode::NonOverlapping, script)?;
+        }
+        self.overlapping_walks(needle, haystack)
+    }
+
+    fn overlapping_walks(&mut self, needle: &[u8], haystack: &[u8]) -> Outcome {
+        for script in scripts::overlapping(needle, haystack) {
+            self.walk(needle, haystack, Mode::Overlapping, script)?;
+        }
+        Ok(())
+    }
+
+    fn walk(&mut self, needle: &[u8], haystack: &[u8], mode: Mode, script: Vec<Call>) -> Outcome {
+        let (needle, haystack) = (needle.to_vec(), haystack.to_vec());
+        self.check(Case::Walk { needle, haystack, mode, script })
+    }
+
+    /// A script that belongs to no mode.
+    fn in_both_modes(&mut self, needle: &[u8], haystack: &[u8], script: &[Call]) -> Outcome {
+        let mut modes = Mode::ALL.into_iter();
+        modes.try_for_each(|mode| self.walk(needle, haystack, mode, script.to_vec()))
     }
 
     /// Needles at their bound, in haystacks that nearly hold them twice.
@@ -172,6 +267,8 @@ impl Run<'_> {
             let haystack = [&needle[1..], &needle[..]].concat();
             self.splits(&needle, naive::smallest_period(&needle), haystack.len())?;
             self.searches(&needle, &haystack)?;
+            let script = [Call::Next, Call::NextBack].repeat(3);
+            self.walk(&needle, &haystack, Mode::Overlapping, script)?;
         }
         Ok(())
     }
@@ -182,7 +279,7 @@ impl Run<'_> {
             self.check(Case::Suffix { word: word.to_vec(), greater })?;
             self.check(Case::ReverseSuffix { word: word.to_vec(), known, greater })?;
         }
-        self.check(Case::Prepare { needle: word.to_vec(), n })
+        self.prepares(word, n)
     }
 
     fn searches(&mut self, needle: &[u8], haystack: &[u8]) -> Outcome {
@@ -193,7 +290,8 @@ impl Run<'_> {
         Ok(())
     }
 
-    /// Every fitting state of small lengths, whatever bytes it may have been prepared for.
+    /// Every fitting state of small lengths, whatever bytes it may have been prepared for, and
+    /// prepared ones with one number changed.
     fn handed_in(&mut self, longest: usize) -> Outcome {
         for needle in words::up_to(b"ab", longest).filter(|needle| !needle.is_empty()) {
             for haystack in words::up_to(b"ab", 5) {
@@ -202,6 +300,12 @@ impl Run<'_> {
                         self.calls(&needle, &haystack, state)?;
                     }
                 }
+                for mode in Mode::ALL {
+                    let (state, _) = RULES.prepare(&needle, haystack.len(), mode);
+                    let changed = states::with_one_change(&state);
+                    let mut changed = changed.into_iter();
+                    changed.try_for_each(|state| self.each_call(&needle, &haystack, state))?;
+                }
             }
         }
         Ok(())
@@ -209,14 +313,16 @@ impl Run<'_> {
 
     /// Every small walk of an empty needle, and calls with states that are known to fit or not to.
     fn empty_needle(&mut self) -> Outcome {
-        exhaustive::empty_walks().try_for_each(|case| self.check(case))?;
+        for mode in Mode::ALL {
+            exhaustive::empty_walks(mode).try_for_each(|case| self.check(case))?;
+        }
         exhaustive::empty_calls().try_for_each(|(case, fits)| self.fitted(case, fits))
     }
 
     /// `EmptyNeedle` told again against the original's own, if that is at hand: without anything put
     /// back behind Done.
     fn told_again(&mut self) -> Outcome {
-        for case in exhaustive::empty_walks() {
+        for case in exhaustive::empty_walks(Mode::NonOverlapping) {
             let Case::Walk { haystack, script, .. } = &case else { continue };
             let Some(own) = original::empty_walk(haystack, script) else { continue };
             let mut searcher = EmptyNeedle::new(haystack.len());
@@ -253,11 +359,14 @@ impl Run<'_> {
         for n in words::EDGES {
             let haystack = words::random(dice, words::ALPHABETS[2], n);
             self.pair(b"", &haystack)?;
-            self.check(Case::Prepare { needle: Word::new(), n })?;
+            self.prepares(b"", n)?;
             for _ in 0..number {
-                let (needle, script) = (Word::new(), scripts::any(dice, 1, SCRIPT_LETTERS));
-                self.check(Case::Walk { needle, haystack: haystack.clone(), script })?;
-                self.each_call(b"", &haystack, states::any_fitting(dice, 0, n, 0))?;
+                let script = scripts::any(dice, 1, SCRIPT_LETTERS);
+                self.in_both_modes(b"", &haystack, &script)?;
+                let state = states::any_fitting(dice, 0, n, Mode::NonOverlapping, 0);
+                for mode in Mode::ALL {
+                    self.each_call(b"", &haystack, State { mode, ..state })?;
+                }
             }
         }
         Ok(())
@@ -273,8 +382,11 @@ impl Run<'_> {
 
     fn calls(&mut self, needle: &[u8], haystack: &[u8], state: State) -> Outcome {
         self.each_call(needle, haystack, state)?;
-        self.walk_bounds(Call::Step, needle, haystack, state)?;
-        self.walk_bounds(Call::StepBack, needle, haystack, state)
+        let both_ways = match state.mode {
+            Mode::NonOverlapping => [Call::Step, Call::StepBack],
+            Mode::Overlapping => [Call::Next, Call::NextBack],
+        };
+        both_ways.iter().try_for_each(|&call| self.walk_bounds(call, needle, haystack, state))
     }
 
     /// Demand 3 for the whole walk that starts in a handed-in state: its bounds need no
@@ -282,11 +394,10 @@ impl Run<'_> {
     fn walk_bounds(&self, call: Call, needle: &[u8], haystack: &[u8], first: State) -> Outcome {
         let mut total = Counts::default();
         let mut state = first;
-        // A step that is not Done moves by a byte at least.
+        // A step that is not Done moves by a byte at least, and so does a match.
         for _ in 0..haystack.len() {
             let called = self.model.call(call, needle, haystack, state);
-            total.comparisons += called.counts.comparisons;
-            total.tests += called.counts.tests;
+            total += called.counts;
             state = called.state;
         }
         if meaning::within(&total, needle.len(), meaning::left(call, &first)) {
@@ -306,10 +417,11 @@ impl Run<'_> {
         self.splits(&needle, known, n)?;
         self.pair(&needle, &haystack)?;
         let script = scripts::any(dice, 1, 40);
-        self.check(Case::Walk { needle: needle.clone(), haystack: haystack.clone(), script })?;
+        self.in_both_modes(&needle, &haystack, &script)?;
         let any = dice.roll();
         let set = dice.pick(&[RULES.split(&needle).0.set, u64::MAX, any]);
-        let state = states::any_fitting(dice, m, n, set);
-        self.calls(&needle, &haystack, state)
+        let state = states::any_fitting(dice, m, n, Mode::NonOverlapping, set);
+        let mut modes = Mode::ALL.into_iter();
+        modes.try_for_each(|mode| self.calls(&needle, &haystack, State { mode, ..state }))
     }
 }

@@ -27,8 +27,8 @@ fn suffixes() -> impl Iterator<Item = Case> {
     })
 }
 
-/// Walks to the end in both directions by steps and by matches, a mix of all four, and both
-/// searches, for all pairs over 2 letters: needles up to 6, haystacks up to 10.
+/// Walks to the end in both directions by steps and by matches, a mix of all four, overlapping
+/// walks, and both searches, for all pairs over 2 letters: needles up to 6, haystacks up to 10.
 fn walks() -> impl Iterator<Item = Case> {
     words::pairs((AB, 6), (AB, 10)).flat_map(|(needle, haystack)| {
         let rounds: [&[Call]; 5] = [
@@ -38,10 +38,17 @@ fn walks() -> impl Iterator<Item = Case> {
             &[Call::NextBack],
             &[Call::Step, Call::NextBack, Call::StepBack, Call::Next],
         ];
+        let walk = |mode, script| {
+            let (needle, haystack) = (needle.clone(), haystack.clone());
+            Case::Walk { needle, haystack, mode, script }
+        };
         let mut cases: Vec<Case> = Vec::new();
         for round in rounds {
-            let script = scripts::whole(&needle, &haystack, round);
-            cases.push(Case::Walk { needle: needle.clone(), haystack: haystack.clone(), script });
+            let mode = Mode::NonOverlapping;
+            cases.push(walk(mode, scripts::whole(&needle, &haystack, mode, round)));
+        }
+        for script in scripts::overlapping(&needle, &haystack) {
+            cases.push(walk(Mode::Overlapping, script));
         }
         for backward in [false, true] {
             let (needle, haystack) = (needle.clone(), haystack.clone());
@@ -77,11 +84,11 @@ fn handed_in() -> impl Iterator<Item = Case> {
 }
 
 /// Every script of up to 6 calls over an empty needle, in haystacks of up to 6 letters.
-pub fn empty_walks() -> impl Iterator<Item = Case> {
-    (0..=6).flat_map(|n| {
+pub fn empty_walks(mode: Mode) -> impl Iterator<Item = Case> {
+    (0..=6).flat_map(move |n| {
         let walk = move |script| {
             let (needle, haystack) = (Vec::new(), words::power(AB, n));
-            Case::Walk { needle, haystack, script }
+            Case::Walk { needle, haystack, mode, script }
         };
         scripts::every(6).map(walk)
     })
@@ -91,7 +98,8 @@ pub fn empty_walks() -> impl Iterator<Item = Case> {
 /// start, for no byte too, with one number changed.
 fn two_way(n: usize) -> impl Iterator<Item = State> {
     let fitting = (1..=2).flat_map(move |m| states::all_fitting(m, n, 0));
-    let starts = (0..=2).map(move |m| states::at_start(m, n));
+    let in_modes = move |m| Mode::ALL.map(|mode| states::at_start(m, n, mode));
+    let starts = (0..=2).flat_map(in_modes);
     let changed = starts.clone().flat_map(|state| states::with_one_change(&state));
     fitting.flat_map(|state| [state, State { m: 0, ..state }]).chain(starts).chain(changed)
 }
@@ -145,6 +153,7 @@ pub fn scans() -> impl Iterator<Item = Case> {
 }
 
 pub fn cases() -> impl Iterator<Item = Case> {
-    let empty = empty_walks().chain(empty_calls().map(|(case, _)| case));
+    let empty_walks = Mode::ALL.into_iter().flat_map(empty_walks);
+    let empty = empty_walks.chain(empty_calls().map(|(case, _)| case));
     suffixes().chain(walks()).chain(handed_in()).chain(empty)
 }

@@ -52,8 +52,8 @@ fn smaller<'a>(case: &'a Case) -> Box<dyn Iterator<Item = Case> + 'a> {
             let (known, greater) = (*known, *greater);
             Box::new(cuts(word).map(move |word| Case::ReverseSuffix { word, known, greater }))
         }
-        Case::Prepare { needle, n } => {
-            Box::new(cuts(needle).map(|needle| Case::Prepare { needle, n: *n }))
+        Case::Prepare { needle, n, mode } => {
+            Box::new(cuts(needle).map(|needle| Case::Prepare { needle, n: *n, mode: *mode }))
         }
         Case::Search { needle, haystack, backward } => {
             let built = |needle, haystack| Case::Search { needle, haystack, backward: *backward };
@@ -61,10 +61,11 @@ fn smaller<'a>(case: &'a Case) -> Box<dyn Iterator<Item = Case> + 'a> {
             let haystacks = cuts(haystack).map(move |haystack| built(needle.clone(), haystack));
             Box::new(needles.chain(haystacks))
         }
-        Case::Walk { needle, haystack, script } => {
+        Case::Walk { needle, haystack, mode, script } => {
             let built = |needle: &[u8], haystack: &[u8], script: &[Call]| Case::Walk {
                 needle: needle.to_vec(),
                 haystack: haystack.to_vec(),
+                mode: *mode,
                 script: script.to_vec(),
             };
             let scripts = cuts(script).map(move |script| built(needle, haystack, &script));

@@ -5,11 +5,13 @@
 pub const HAYSTACK_BOUND: usize = 67_108_864;
 pub const NEEDLE_BOUND: usize = 65_536;
 
-/// The numbers of the refusals. No call gives NEEDLE_EMPTY since 02's request [1].
+/// The numbers of the refusals. No call gives NEEDLE_EMPTY since 02's request [1]; STEP_OVERLAPPING
+/// is a step in overlapping mode, 02's [3].
 pub const HAYSTACK_TOO_LONG: u8 = 1;
 pub const NEEDLE_TOO_LONG: u8 = 2;
 pub const NEEDLE_EMPTY: u8 = 3;
 pub const STATE_DOES_NOT_FIT: u8 = 4;
+pub const STEP_OVERLAPPING: u8 = 5;
 
 /// What the C functions answer where they have no position: none, refusal 1, refusal 2.
 pub const NONE_CODE: u64 = u64::MAX;

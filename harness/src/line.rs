@@ -18,15 +18,20 @@ pub fn parse(line: &[u8]) -> Option<Case> {
             known: parse_number(known)?,
             greater: parse_bit(order)?,
         },
-        [b"prep", needle, n] => Case::Prepare { needle: parse_word(needle)?, n: parse_number(n)? },
+        [b"prep", needle, n, mode] => Case::Prepare {
+            needle: parse_word(needle)?,
+            n: parse_number(n)?,
+            mode: parse_mode(mode)?,
+        },
         [name @ (b"find" | b"rfind"), needle, haystack] => Case::Search {
             needle: parse_word(needle)?,
             haystack: parse_word(haystack)?,
             backward: name == b"rfind",
         },
-        [b"walk", needle, haystack, script] => Case::Walk {
+        [b"walk", needle, haystack, mode, script] => Case::Walk {
             needle: parse_word(needle)?,
             haystack: parse_word(haystack)?,
+            mode: parse_mode(mode)?,
             script: parse_script(script)?,
         },
         [name, needle, haystack, state] => Case::Call {
@@ -63,6 +68,17 @@ fn parse_script(text: &[u8]) -> Option<Vec<Call>> {
     }
     let call = |&letter| Call::ALL.into_iter().find(|&call| call_letter(call) == letter);
     text.iter().map(call).collect()
+}
+
+fn mode_letter(mode: Mode) -> char {
+    match mode {
+        Mode::NonOverlapping => 'n',
+        Mode::Overlapping => 'o',
+    }
+}
+
+fn parse_mode(text: &[u8]) -> Option<Mode> {
+    Mode::ALL.into_iter().find(|&mode| [mode_letter(mode) as u8] == *text)
 }
 
 /// An order or a flag.
@@ -108,7 +124,7 @@ fn parse_set(text: &[u8]) -> Option<u64> {
 
 fn parse_state(text: &[u8]) -> Option<State> {
     let fields: Vec<&[u8]> = text.split(|&byte| byte == b':').collect();
-    let [kind, m, n, position, end, rest @ ..] = &fields[..] else { return None };
+    let [kind, m, n, position, end, mode, rest @ ..] = &fields[..] else { return None };
     let kind = match (*kind, rest) {
         (b"E", [forward, backward]) => {
             Kind::Empty { forward: parse_bit(forward)?, backward: parse_bit(backward)? }
@@ -121,7 +137,8 @@ fn parse_state(text: &[u8]) -> Option<State> {
         _ => return None,
     };
     let (m, n) = (parse_number(m)?, parse_number(n)?);
-    Some(State { m, n, position: parse_number(position)?, end: parse_number(end)?, kind })
+    let (position, end) = (parse_number(position)?, parse_number(end)?);
+    Some(State { m, n, position, end, mode: parse_mode(mode)?, kind })
 }
 
 fn parse_two_way(splits: &[&[u8]], set: &[u8], memory: Memory) -> Option<Kind> {
@@ -136,7 +153,9 @@ pub fn show_case(case: &Case) -> String {
         Case::ReverseSuffix { word, known, greater } => {
             format!("rmsuf {} {known} {}", show_word(word), *greater as u8)
         }
-        Case::Prepare { needle, n } => format!("prep {} {n}", show_word(needle)),
+        Case::Prepare { needle, n, mode } => {
+            format!("prep {} {n} {}", show_word(needle), mode_letter(*mode))
+        }
         Case::Search { needle, haystack, backward } => {
             let name = if *backward { "rfind" } else { "find" };
             format!("{name} {} {}", show_word(needle), show_word(haystack))
@@ -145,9 +164,10 @@ pub fn show_case(case: &Case) -> String {
             let (name, state) = (call_name(*call), show_state(state));
             format!("{name} {} {} {state}", show_word(needle), show_word(haystack))
         }
-        Case::Walk { needle, haystack, script } => {
+        Case::Walk { needle, haystack, mode, script } => {
             let script: String = script.iter().map(|&call| call_letter(call) as char).collect();
-            format!("walk {} {} {script}", show_word(needle), show_word(haystack))
+            let (needle, haystack) = (show_word(needle), show_word(haystack));
+            format!("walk {needle} {haystack} {} {script}", mode_letter(*mode))
         }
     }
 }
@@ -163,17 +183,17 @@ pub fn show_word(word: &[u8]) -> String {
 }
 
 pub fn show_state(state: &State) -> String {
-    let State { m, n, position, end, kind } = state;
-    let numbers = format!("{m}:{n}:{position}:{end}");
+    let State { m, n, position, end, mode, kind } = state;
+    let start = format!("{m}:{n}:{position}:{end}:{}", mode_letter(*mode));
     match kind {
         Kind::Empty { forward, backward } => {
-            format!("E:{numbers}:{}:{}", *forward as u8, *backward as u8)
+            format!("E:{start}:{}:{}", *forward as u8, *backward as u8)
         }
         Kind::TwoWay(TwoWay { c, b, p, set, memory: Memory::Long }) => {
-            format!("L:{numbers}:{c}:{b}:{p}:{set:016x}")
+            format!("L:{start}:{c}:{b}:{p}:{set:016x}")
         }
         Kind::TwoWay(TwoWay { c, b, p, set, memory: Memory::Short { forward, backward } }) => {
-            format!("S:{numbers}:{c}:{b}:{p}:{set:016x}:{forward}:{backward}")
+            format!("S:{start}:{c}:{b}:{p}:{set:016x}:{forward}:{backward}")
         }
     }
 }

@@ -99,72 +99,114 @@ pub const MALFORMED: &[&str] = &[
     "rmsuf 61 - 0",
     "rmsuf 61 18446744073709551616 0",
     "rmsuf 61 000000000000000000001 0",
-    "prep 61",
-    "prep 61 a",
-    "prep 61 1.0",
-    "prep 61 99999999999999999999",
-    "walk 61 6161",
-    "walk 61 6161 ",
-    "walk 61 6161 -",
-    "walk 61 6161 fx",
-    "walk 61 6161 f f",
-    "walk 61 6161 1",
+    "prep 61 n",
+    "prep 61 a n",
+    "prep 61 1.0 n",
+    "prep 61 99999999999999999999 n",
+    "walk 61 6161 n",
+    "walk 61 6161 n ",
+    "walk 61 6161 n -",
+    "walk 61 6161 n fx",
+    "walk 61 6161 n f f",
+    "walk 61 6161 n 1",
     "step 61 6161",
     "step 61 6161 f",
     "step 61 6161 -",
-    "step 61 6161 S:1:2:0:2:0:1:1:0000000200000000:0",
-    "step 61 6161 S:1:2:0:2:0:1:1:0000000200000000:0:1:1",
-    "step 61 6161 S:1:2:0:2:0:1:1:0000000200000000",
-    "step 61 6161 L:1:2:0:2:0:1:1:0000000200000000:0:1",
-    "step 61 6161 s:1:2:0:2:0:1:1:0000000200000000:0:1",
-    "step 61 6161 S:1:2:0:2:0:1:1:000000020000000:0:1",
-    "step 61 6161 S:1:2:0:2:0:1:1:00000002000000000:0:1",
-    "step 61 6161 S:1:2:0:2:0:1:1:000000020000000A:0:1",
-    "step 61 6161 S:1:2::2:0:1:1:0000000200000000:0:1",
-    "step 61 6161 S:1:2:0:2:0:1:-1:0000000200000000:0:1",
-    "step 61 6161 S:1:2:0:2:0:1:1:0000000200000000:0:18446744073709551616",
-    "next 61 6161 L:2:2:0:2:1:1:2:0000000200000000:",
-    "stepf 61 6161 S:1:2:0:2:0:1:1:0000000200000000:0:1",
+    "step 61 6161 S:1:2:0:2:n:0:1:1:0000000200000000:0",
+    "step 61 6161 S:1:2:0:2:n:0:1:1:0000000200000000:0:1:1",
+    "step 61 6161 S:1:2:0:2:n:0:1:1:0000000200000000",
+    "step 61 6161 L:1:2:0:2:n:0:1:1:0000000200000000:0:1",
+    "step 61 6161 s:1:2:0:2:n:0:1:1:0000000200000000:0:1",
+    "step 61 6161 S:1:2:0:2:n:0:1:1:000000020000000:0:1",
+    "step 61 6161 S:1:2:0:2:n:0:1:1:00000002000000000:0:1",
+    "step 61 6161 S:1:2:0:2:n:0:1:1:000000020000000A:0:1",
+    "step 61 6161 S:1:2::2:n:0:1:1:0000000200000000:0:1",
+    "step 61 6161 S:1:2:0:2:n:0:1:-1:0000000200000000:0:1",
+    "step 61 6161 S:1:2:0:2:n:0:1:1:0000000200000000:0:18446744073709551616",
+    "next 61 6161 L:2:2:0:2:n:1:1:2:0000000200000000:",
+    "stepf 61 6161 S:1:2:0:2:n:0:1:1:0000000200000000:0:1",
     "quit",
-    "prep - -",
-    "walk - 6161 E:0:2:0:2:1:1",
-    "step - 6161 E:0:2:0:2:1:2",
-    "step - 6161 E:0:2:0:2:2:1",
-    "step - 6161 E:0:2:0:2:1:01",
-    "step - 6161 E:0:2:0:2:00:1",
-    "step - 6161 E:0:2:0:2:1:",
-    "step - 6161 E:0:2:0:2::1",
-    "step - 6161 E:0:2:0:2:1",
-    "step - 6161 E:0:2:0:2",
+    "prep - - n",
+    "walk - 6161 n E:0:2:0:2:n:1:1",
+    "step - 6161 E:0:2:0:2:n:1:2",
+    "step - 6161 E:0:2:0:2:n:2:1",
+    "step - 6161 E:0:2:0:2:n:1:01",
+    "step - 6161 E:0:2:0:2:n:00:1",
+    "step - 6161 E:0:2:0:2:n:1:",
+    "step - 6161 E:0:2:0:2:n::1",
+    "step - 6161 E:0:2:0:2:n:1",
+    "step - 6161 E:0:2:0:2:n",
     "step - 6161 E",
-    "step - 6161 E:0:2:0:2:1:1:1",
-    "step - 6161 E:0:2:0:2:0:0:1:0000000000000000",
-    "step - 6161 E:0:2:0:2:0:0:1:0000000000000000:1:1",
-    "step - 6161 e:0:2:0:2:1:1",
-    "step - 6161 L:0:2:0:2:1:1",
-    "step - 6161 S:0:2:0:2:1:1",
-    "step - 6161 E:0:2::2:1:1",
-    "step - 6161 E:0:2:0:18446744073709551616:1:1",
+    "step - 6161 E:0:2:0:2:n:1:1:1",
+    "step - 6161 E:0:2:0:2:n:0:0:1:0000000000000000",
+    "step - 6161 E:0:2:0:2:n:0:0:1:0000000000000000:1:1",
+    "step - 6161 e:0:2:0:2:n:1:1",
+    "step - 6161 L:0:2:0:2:n:1:1",
+    "step - 6161 S:0:2:0:2:n:1:1",
+    "step - 6161 E:0:2::2:n:1:1",
+    "step - 6161 E:0:2:0:18446744073709551616:n:1:1",
+    // No mode, and another than the two.
+    "prep 61 2",
+    "prep 61 2 ",
+    "prep 61 2 x",
+    "prep 61 2 N",
+    "prep 61 2 O",
+    "prep 61 2 no",
+    "prep 61 2 oo",
+    "prep 61 2 0",
+    "prep 61 2 n n",
+    "prep 61 n 2",
+    "prep - 2",
+    "walk 61 6161 f",
+    "walk 61 6161  F",
+    "walk 61 6161 x F",
+    "walk 61 6161 N F",
+    "walk 61 6161 O F",
+    "walk 61 6161 on F",
+    "walk 61 6161 1 F",
+    "walk 61 6161 F o",
+    "walk 61 6161 o",
+    "walk 61 6161 o o F",
+    "walk - 6161 f",
+    "find 61 6161 o",
+    "next 61 6161 S:1:2:0:2:0:1:1:0000000200000000:0:1",
+    "next 61 6161 S:1:2:0:2::0:1:1:0000000200000000:0:1",
+    "next 61 6161 S:1:2:0:2:x:0:1:1:0000000200000000:0:1",
+    "next 61 6161 S:1:2:0:2:N:0:1:1:0000000200000000:0:1",
+    "next 61 6161 S:1:2:0:2:O:0:1:1:0000000200000000:0:1",
+    "next 61 6161 S:1:2:0:2:oo:0:1:1:0000000200000000:0:1",
+    "next 61 6161 S:1:2:0:2:1:0:1:1:0000000200000000:0:1",
+    "next 61 6161 S:1:2:0:o:2:0:1:1:0000000200000000:0:1",
+    "next 61 6161 S:1:2:0:2:0:1:1:0000000200000000:0:1:o",
+    "next 61 6161 S:1:2:0:2:o:o:0:1:1:0000000200000000:0:1",
+    "next 6162 6162 L:2:2:0:2:1:1:2:0000000600000000",
+    "next 6162 6162 L:2:2:0:2:O:1:1:2:0000000600000000",
+    "next - 6161 E:0:2:0:2:1:1",
+    "next - 6161 E:0:2:0:2::1:1",
+    "next - 6161 E:0:2:0:2:no:1:1",
+    "next - 6161 E:0:2:0:2:1:1:o",
 ];
 
 /// Well formed, though they look odd.
 pub const ODD: &[&str] = &[
     "rmsuf 61 18446744073709551615 0",
     "rmsuf 616261 00000000000000000002 1",
-    "prep 6162 18446744073709551615",
-    "prep 6162 007",
-    "step 61 6161 S:01:2:00:2:0:1:1:0000000200000000:0:1",
-    "step 61 6161 S:01:2:03:2:0:1:1:0000000200000000:0:1",
-    "nextb 61 6161 S:1:2:18446744073709551615:2:0:1:1:ffffffffffffffff:0:1",
-    "prep - 007",
-    "next - 6161 E:00:02:01:2:0:1",
-    "nextb - 6161 E:0:2:0:18446744073709551615:1:1",
+    "prep 6162 18446744073709551615 n",
+    "prep 6162 007 n",
+    "step 61 6161 S:01:2:00:2:n:0:1:1:0000000200000000:0:1",
+    "step 61 6161 S:01:2:03:2:n:0:1:1:0000000200000000:0:1",
+    "nextb 61 6161 S:1:2:18446744073709551615:2:n:0:1:1:ffffffffffffffff:0:1",
+    "prep - 007 n",
+    "next - 6161 E:00:02:01:2:n:0:1",
+    "nextb - 6161 E:0:2:0:18446744073709551615:n:1:1",
+    "prep 6161 0 o",
+    "nextb 61 6161 S:01:02:000:2:o:0:1:1:0000000200000000:0:1",
 ];
 
 /// One carriage return at the end of a line is let pass: no second one, and none before it.
 const RETURNS: &[&str] = &[
     "find 4142 787841427878784142\r",
-    "walk 6e616e61 62616e616e61 fff\r",
+    "walk 6e616e61 62616e616e61 n fff\r",
     "find 61 6161\r\r",
     "find 61\r 6161",
     "find 61 6161 \r",
@@ -175,6 +217,8 @@ struct List {
     lines: Vec<String>,
     seen: HashSet<String>,
     dice: Dice,
+    /// What is added is in this mode, where a mode is asked for.
+    mode: Mode,
 }
 
 pub fn lines() -> Vec<String> {
@@ -183,14 +227,16 @@ pub fn lines() -> Vec<String> {
     list.source_tests();
     list.tiny();
     list.seeded();
+    list.seeded_walks(80);
     list.large();
-    list.handed_in();
-    list.other_needle();
+    list.handed_in(120);
+    list.other_needle(40);
     list.broken(&[(b"aabaab", b"aabaabxaa"), (b"baabb", b"baabbbaabc"), (b"", b"abc")]);
     list.empty_walks();
     list.empty_seeded(&[1, 1, 1, 1, 2, 2, 2, 2, 3, 3, 3, 3]);
     list.empty_seeded(&EDGES);
     list.other_kind();
+    list.overlapping();
     list.texts(ODD.iter().copied());
     list.texts(MALFORMED.iter().copied());
     list.limits();
@@ -203,18 +249,22 @@ pub fn lines() -> Vec<String> {
 pub fn batch(seed: u64) -> Vec<Vec<u8>> {
     let mut list = List::new(seed);
     list.seeded();
-    list.long_words();
-    list.handed_in();
-    list.other_needle();
-    let (needle, haystack) = words::pair(&mut list.dice, 12, 30);
-    list.broken(&[(&needle, &haystack), (b"", &haystack)]);
-    let n = list.dice.between(2, 30);
-    list.empty_seeded(&[2, 2, 3, 3, n, n, n, n]);
-    list.empty_seeded(&EDGES);
-    for n in [HAYSTACK_BOUND, HAYSTACK_BOUND + 1] {
-        list.case(Case::Prepare { needle: Word::new(), n });
+    for mode in Mode::ALL {
+        list.mode = mode;
+        list.seeded_walks(50);
+        list.long_words();
+        list.handed_in(80);
+        list.other_needle(20);
+        let (needle, haystack) = words::pair(&mut list.dice, 12, 30);
+        list.broken(&[(&needle, &haystack), (b"", &haystack)]);
+        let n = list.dice.between(2, 30);
+        list.empty_seeded(&[2, 2, 3, 3, n, n, n, n]);
+        list.empty_seeded(&EDGES);
+        for n in [HAYSTACK_BOUND, HAYSTACK_BOUND + 1] {
+            list.prepare(b"", n);
+        }
+        list.other_kind();
     }
-    list.other_kind();
     list.texts(ODD.iter().copied());
     list.texts(MALFORMED.iter().copied());
     let mut lines = list.damaged(120);
@@ -227,7 +277,8 @@ pub fn batch(seed: u64) -> Vec<Vec<u8>> {
 
 impl List {
     fn new(seed: u64) -> List {
-        List { lines: Vec::new(), seen: HashSet::new(), dice: Dice::new(seed) }
+        let (lines, seen, dice) = (Vec::new(), HashSet::new(), Dice::new(seed));
+        List { lines, seen, dice, mode: Mode::NonOverlapping }
     }
 
     /// Each line once.
@@ -264,9 +315,19 @@ impl List {
         }
     }
 
+    fn prepare(&mut self, needle: &[u8], n: usize) {
+        self.case(Case::Prepare { needle: needle.to_vec(), n, mode: self.mode });
+    }
+
     fn walk(&mut self, needle: &[u8], haystack: &[u8], script: Vec<Call>) {
         let (needle, haystack) = (needle.to_vec(), haystack.to_vec());
-        self.case(Case::Walk { needle, haystack, script });
+        self.case(Case::Walk { needle, haystack, mode: self.mode, script });
+    }
+
+    /// The calls of `round` to the end.
+    fn whole(&mut self, needle: &[u8], haystack: &[u8], round: &[Call]) {
+        let script = scripts::whole(needle, haystack, self.mode, round);
+        self.walk(needle, haystack, script);
     }
 
     fn call(&mut self, call: Call, needle: &[u8], haystack: &[u8], state: State) {
@@ -283,9 +344,9 @@ impl List {
         }
         for (needle, haystack) in WALKED {
             let (needle, haystack) = (needle.as_bytes(), haystack.as_bytes());
-            self.case(Case::Prepare { needle: needle.to_vec(), n: haystack.len() });
+            self.prepare(needle, haystack.len());
             for call in Call::ALL {
-                self.walk(needle, haystack, scripts::whole(needle, haystack, &[call]));
+                self.whole(needle, haystack, &[call]);
             }
         }
         let searched = SEARCHED.as_bytes();
@@ -322,16 +383,21 @@ impl List {
             self.suffixes(&word);
             self.reverse_suffixes(&word, naive::smallest_period(&word));
             self.reverse_suffixes(&word, any);
-            self.case(Case::Prepare { needle: word, n: any });
+            self.prepare(&word, any);
         }
         for _ in 0..50 {
             let (needle, haystack) = words::pair(&mut self.dice, 12, 48);
             self.searches(&needle, &haystack);
         }
-        for _ in 0..80 {
+    }
+
+    fn seeded_walks(&mut self, number: usize) {
+        let answered = |call: &Call| !self.mode.refuses(*call);
+        let calls: Vec<Call> = Call::ALL.into_iter().filter(answered).collect();
+        for _ in 0..number {
             let (needle, haystack) = words::pair(&mut self.dice, 9, 30);
-            let round = self.dice.pick(&Call::ALL);
-            self.walk(&needle, &haystack, scripts::whole(&needle, &haystack, &[round]));
+            let round = self.dice.pick(&calls);
+            self.whole(&needle, &haystack, &[round]);
             let script = scripts::any(&mut self.dice, 2, 12);
             self.walk(&needle, &haystack, script);
         }
@@ -351,7 +417,7 @@ impl List {
         self.suffixes(&thue_morse);
         let letters = ALPHABETS[2];
         let needle = words::random(&mut self.dice, letters, WORD_BYTES);
-        self.case(Case::Prepare { needle, n: HAYSTACK_BOUND });
+        self.prepare(&needle, HAYSTACK_BOUND);
     }
 
     /// At each limit of a line, and one past it. The last walks are over words at theirs, so that
@@ -377,26 +443,26 @@ impl List {
     }
 
     /// Fitting states that belong to no needle in particular.
-    fn handed_in(&mut self) {
-        for _ in 0..120 {
+    fn handed_in(&mut self, number: usize) {
+        for _ in 0..number {
             let (needle, haystack) = words::pair(&mut self.dice, 6, 14);
             let (m, n) = (needle.len(), haystack.len());
             let any = self.dice.roll();
             let own = RULES.split(&needle).0.set;
             let set = self.dice.pick(&[own, own, u64::MAX, 0, any]);
-            let state = states::any_fitting(&mut self.dice, m, n, set);
+            let state = states::any_fitting(&mut self.dice, m, n, self.mode, set);
             let call = self.dice.pick(&Call::ALL);
             self.call(call, &needle, &haystack, state);
         }
     }
 
     /// States prepared for another needle of the same length.
-    fn other_needle(&mut self) {
-        for i in 0..40 {
+    fn other_needle(&mut self, number: usize) {
+        for i in 0..number {
             let (needle, haystack) = words::pair(&mut self.dice, 8, 20);
             let letters = self.dice.pick(&ALPHABETS);
             let other = words::structured(&mut self.dice, letters, needle.len());
-            let (state, _) = RULES.prepare(&other, haystack.len());
+            let (state, _) = RULES.prepare(&other, haystack.len(), self.mode);
             self.call(Call::ALL[i % 4], &needle, &haystack, state);
         }
     }
@@ -406,7 +472,7 @@ impl List {
         let mut calls = Call::ALL.into_iter().cycle();
         for (needle, haystack) in pairs {
             let (m, n) = (needle.len(), haystack.len());
-            let (state, _) = RULES.prepare(needle, n);
+            let (state, _) = RULES.prepare(needle, n, self.mode);
             for state in states::with_one_change(&state) {
                 if let Some(call) = calls.next().filter(|_| !fits(&state, m, n)) {
                     self.call(call, needle, haystack, state);
@@ -420,7 +486,7 @@ impl List {
         let mixed: &[Call] = &[Call::Step, Call::NextBack, Call::StepBack, Call::Next];
         for haystack in (0..=3).map(|n| words::power(b"ab", n)) {
             for round in Call::ALL.chunks(1).chain([mixed]) {
-                self.walk(b"", &haystack, scripts::whole(b"", &haystack, round));
+                self.whole(b"", &haystack, round);
             }
         }
     }
@@ -432,23 +498,51 @@ impl List {
             let haystack = words::random(&mut self.dice, ALPHABETS[2], n);
             let script = scripts::any(&mut self.dice, 1, SCRIPT_LETTERS.min(6 * n + 6));
             self.walk(b"", &haystack, script);
-            let state = states::any_fitting(&mut self.dice, 0, n, 0);
+            let state = states::any_fitting(&mut self.dice, 0, n, self.mode, 0);
             self.call(call, b"", &haystack, state);
-            self.case(Case::Prepare { needle: Word::new(), n });
+            self.prepare(b"", n);
         }
     }
 
     /// States of an empty needle's walk handed in with a needle of one byte, also where they name
     /// its length, and states of that needle's walk handed in with an empty one.
     fn other_kind(&mut self) {
-        let (empty, _) = RULES.prepare(b"", 2);
-        let (two_way, _) = RULES.prepare(b"a", 2);
+        let (empty, _) = RULES.prepare(b"", 2, self.mode);
+        let (two_way, _) = RULES.prepare(b"a", 2, self.mode);
         for call in Call::ALL {
             for m in 0..=1 {
                 self.call(call, b"a", b"ab", State { m, ..empty });
                 self.call(call, b"", b"ab", State { m, ..two_way });
             }
         }
+    }
+
+    /// Walks of the original's tests and of words of a few letters in overlapping mode, and less of
+    /// what else there is in the other mode.
+    fn overlapping(&mut self) {
+        self.mode = Mode::Overlapping;
+        for (i, (needle, haystack)) in WALKED.iter().enumerate() {
+            let (needle, haystack) = (needle.as_bytes(), haystack.as_bytes());
+            let script = scripts::overlapping(needle, haystack)[i % 4].clone();
+            self.walk(needle, haystack, script);
+        }
+        for needle in words::all(b"ab", 2) {
+            for haystack in words::all(b"ab", 3) {
+                self.whole(&needle, &haystack, &[Call::Next, Call::NextBack]);
+            }
+        }
+        self.seeded_walks(14);
+        self.handed_in(36);
+        self.other_needle(8);
+        self.broken(&[(b"aa", b"aaa")]);
+        self.empty_seeded(&[1, 2, 2, 3]);
+        let fibonacci = words::fibonacci(*b"ab", 610);
+        self.whole(&fibonacci[..55], &fibonacci, &[Call::Next, Call::NextBack]);
+        // As many matches as a script can ask for.
+        let run = words::power(b"a", SCRIPT_LETTERS + 1);
+        self.walk(b"aa", &run, vec![Call::Next; SCRIPT_LETTERS]);
+        self.walk(b"aa", &run, vec![Call::NextBack; SCRIPT_LETTERS]);
+        self.mode = Mode::NonOverlapping;
     }
 
     /// All that can be asked of words as long as a line takes.
@@ -463,14 +557,14 @@ impl List {
             self.searches(&needle, &haystack);
             let script = scripts::any(&mut self.dice, 1, 40);
             self.walk(&needle, &haystack, script);
-            let (prepared, _) = RULES.prepare(&needle, n);
+            let (prepared, _) = RULES.prepare(&needle, n, self.mode);
             let set = RULES.split(&needle).0.set;
-            let fitting = states::any_fitting(&mut self.dice, m, n, set);
+            let fitting = states::any_fitting(&mut self.dice, m, n, self.mode, set);
             for call in Call::ALL {
                 self.call(call, &needle, &haystack, prepared);
                 self.call(call, &needle, &haystack, fitting);
             }
-            self.case(Case::Prepare { needle, n });
+            self.prepare(&needle, n);
         }
     }
 

@@ -1,11 +1,12 @@
 //! Holds a reply against the meanings in naive.rs and against the bounds of demand 3.
 
 use crate::case::*;
-use crate::limits::PREPARING_PER_BYTE;
+use crate::limits::{PREPARING_PER_BYTE, STATE_DOES_NOT_FIT, STEP_OVERLAPPING};
 use crate::model::fits;
 use crate::naive;
 
 const TOO_MANY: &str = "too many comparisons or tests";
+const ANOTHER_MODE: &str = "the state has another mode";
 
 /// Err says which promise is broken.
 pub fn check(case: &Case, reply: &Reply) -> Result<(), String> {
@@ -20,18 +21,18 @@ pub fn check(case: &Case, reply: &Reply) -> Result<(), String> {
             let true_start = || naive::maximal_suffix(&naive::reversed(word), *greater).0;
             ensure(!promised || *start == true_start(), "not the maximal suffix's start")
         }
-        (Case::Prepare { needle, n }, Reply::Prepared { state, preparing }) => {
+        (Case::Prepare { needle, n, mode }, Reply::Prepared { state, preparing }) => {
+            ensure(state.mode == *mode, ANOTHER_MODE)?;
             prepared(needle, *n, state, *preparing)
         }
         (Case::Search { needle, haystack, backward }, Reply::Found { position, counts }) => {
             found(needle, haystack, *backward, *position, counts)
         }
-        (Case::Call { call, needle, state, .. }, Reply::Called(called)) => {
-            let refused = matches!(called.answer, Answer::Refused(_));
-            let holds = refused || within(&called.counts, needle.len(), left(*call, state));
-            ensure(holds, TOO_MANY)
+        (Case::Call { call, needle, haystack, state: before }, Reply::Called(reply)) => {
+            called(*call, needle.len(), haystack.len(), before, reply)
         }
-        (Case::Walk { needle, haystack, script }, Reply::Walked { calls, state, .. }) => {
+        (Case::Walk { needle, haystack, mode, script }, Reply::Walked { calls, state, .. }) => {
+            ensure(state.mode == *mode, ANOTHER_MODE)?;
             walked(needle, haystack, script, calls, state)
         }
         (_, Reply::Refused(_)) => Ok(()),
@@ -84,6 +85,24 @@ fn prepared(needle: &[u8], n: usize, state: &State, preparing: u64) -> Result<()
     few_rounds(preparing, m)
 }
 
+/// A handed-in state may belong to other bytes, so its answer has no meaning; but it is settled
+/// whether it is refused. "after check 4, state handed back"
+fn called(call: Call, m: usize, n: usize, before: &State, reply: &Called) -> Result<(), String> {
+    let number = match (fits(before, m, n), before.mode.refuses(call)) {
+        (false, _) => STATE_DOES_NOT_FIT,
+        (true, true) => STEP_OVERLAPPING,
+        (true, false) => {
+            let refused = matches!(reply.answer, Answer::Refused(_));
+            ensure(!refused, "refused, though the state fits")?;
+            ensure(reply.state.mode == before.mode, ANOTHER_MODE)?;
+            return ensure(within(&reply.counts, m, left(call, before)), TOO_MANY);
+        }
+    };
+    let answer = Answer::Refused(number);
+    let refused = Called { answer, state: *before, counts: Counts::default() };
+    ensure(*reply == refused, "not refused by the right number, or not as a refusal is")
+}
+
 fn found(
     needle: &[u8],
     haystack: &[u8],
@@ -97,8 +116,13 @@ fn found(
     ensure(within(counts, needle.len(), haystack.len()), TOO_MANY)
 }
 
-/// One call's answer in one direction: whether it was a step, what it said, its counts.
-type Said = (bool, Answer, Counts);
+/// What a walk counts in one direction.
+pub fn total(script: &[Call], calls: &[(Answer, Counts)], backward: bool) -> Counts {
+    let mut total = Counts::default();
+    let one_way = script.iter().zip(calls).filter(|(call, _)| call.is_backward() == backward);
+    one_way.for_each(|(_, called)| total += called.1);
+    total
+}
 
 fn walked(
     needle: &[u8],
@@ -111,14 +135,17 @@ fn walked(
     let (mut forward, mut backward) = (Vec::new(), Vec::new());
     for (&call, &(answer, counts)) in script.iter().zip(calls) {
         if call.is_backward() {
-            backward.push((call.is_step(), answer.mirrored(n), counts));
+            backward.push((call, answer.mirrored(n), counts));
         } else {
-            forward.push((call.is_step(), answer, counts));
+            forward.push((call, answer, counts));
         }
     }
+    for backward in [false, true] {
+        ensure(within(&total(script, calls, backward), needle.len(), n), TOO_MANY)?;
+    }
     // Backward is forward in a mirror, and neither direction may disturb the other.
-    let forward = one_way(needle, haystack, &forward)?;
-    let backward = one_way(&naive::reversed(needle), &naive::reversed(haystack), &backward)?;
+    let forward = one_way(needle, haystack, &forward, last)?;
+    let backward = one_way(&naive::reversed(needle), &naive::reversed(haystack), &backward, last)?;
     let cursors = last.position == forward.0 && last.end == n - backward.0;
     ensure(cursors, "the cursors are not where the answers ended")?;
     match last.kind {
@@ -129,20 +156,43 @@ fn walked(
     }
 }
 
-/// The answers go through the haystack without gaps, and their matches are the greedy list, all
-/// of it before the end. Gives the place where they end, and whether the next match is right there.
-fn one_way(needle: &[u8], haystack: &[u8], said: &[Said]) -> Result<(usize, bool), String> {
+/// The matches of a whole walk, in the order of the haystack, and how far one moves the cursor.
+fn matches(needle: &[u8], haystack: &[u8], walk: &State) -> (Vec<usize>, usize) {
+    match (walk.mode, walk.kind) {
+        (Mode::NonOverlapping, _) => (naive::greedy(needle, haystack), needle.len()),
+        (Mode::Overlapping, Kind::TwoWay(TwoWay { p, .. })) => (naive::every(needle, haystack), p),
+        (Mode::Overlapping, Kind::Empty { .. }) => (naive::every(needle, haystack), 0),
+    }
+}
+
+/// Of the walk that ends in the state `last`: the answers in one direction, each with its call and
+/// counts. Steps go through the haystack without gaps, a refused one changes nothing, and the
+/// matches are those that are meant, none left out before the cursor and all of them before the
+/// end. Gives the place where they end, and whether the next match is right there.
+fn one_way(
+    needle: &[u8],
+    haystack: &[u8],
+    said: &[(Call, Answer, Counts)],
+    last: &State,
+) -> Result<(usize, bool), String> {
+    // At the start an empty needle's next is a match; the other kind has no flag.
+    if said.is_empty() {
+        return Ok((0, true));
+    }
     let n = haystack.len();
-    let meant = naive::greedy(needle, haystack);
+    let (meant, by) = matches(needle, haystack, last);
     let mut ahead = meant.iter().copied().peekable();
     let mut at = 0;
-    let mut total = Counts::default();
-    for &(stepping, answer, counts) in said {
+    for &(call, answer, counts) in said {
         let next = ahead.peek().copied();
+        let (stepping, refused) = (call.is_step(), last.mode.refuses(call));
         let (holds, then) = match answer {
+            Answer::Refused(STEP_OVERLAPPING) => (refused && counts == Counts::default(), at),
+            _ if refused => (false, at),
             Answer::Match(a, b) => {
                 ahead.next();
-                (next == Some(a) && b == a + needle.len() && (a == at || !stepping), b)
+                let there = if stepping { a == at } else { a >= at };
+                (there && next == Some(a) && b == a + needle.len(), a + by)
             }
             Answer::Reject(a, b) => (stepping && a == at && a < b && b <= next.unwrap_or(n), b),
             Answer::Done => (stepping && at == n && next.is_none(), n),
@@ -153,9 +203,8 @@ fn one_way(needle: &[u8], haystack: &[u8], said: &[Said]) -> Result<(usize, bool
             return Err(format!("{answer:?} at {at}, though the matches are {meant:?}"));
         }
         at = then;
-        total.comparisons += counts.comparisons;
-        total.tests += counts.tests;
     }
-    ensure(within(&total, needle.len(), n), TOO_MANY)?;
-    Ok((at, ahead.next() == Some(at)))
+    let next = ahead.next();
+    ensure(next.is_none_or(|next| next >= at), "an occurrence is left out before the cursor")?;
+    Ok((at, next == Some(at)))
 }

@@ -1,4 +1,5 @@
-//! Document 01 with request [1] of 02 as a program, written from their text and not from the Rust.
+//! Document 01 with the requests [1] and [3] of 02 as a program, written from their text and not
+//! from the Rust.
 //!
 //! Sentences in quotes are theirs. `Fault` puts one wrong thing into it on purpose, so that
 //! `oracle break` can show that the comparison with the Rust would notice.
@@ -31,6 +32,15 @@ pub enum Fault {
     EmptyFitsOneByte,
     EmptyRefused,
     ScanCountedInRounds,
+    MatchMovesByOne,
+    MatchMovesByNeedle,
+    MatchForgets,
+    BackwardMatchForgets,
+    BackwardMatchKeepsRest,
+    LongMatchMovesBySmallestPeriod,
+    StepNotRefused,
+    StepRefusedBeforeFit,
+    CallFlipsMode,
 }
 
 pub struct Model {
@@ -40,11 +50,11 @@ pub struct Model {
 /// 01 without a fault.
 pub const RULES: Model = Model { fault: Fault::None };
 
-/// The lengths and the state that the refusals look at.
+/// What the refusals look at: the lengths, and the call and its state if it takes one.
 struct Asked<'a> {
     m: usize,
     n: usize,
-    state: Option<&'a State>,
+    call: Option<(Call, &'a State)>,
 }
 
 /// What a maximal suffix pass finds, and its rounds.
@@ -63,7 +73,14 @@ struct Walk<'a> {
     counts: Counts,
 }
 
-/// "A state fits a needle and haystack when all hold"
+/// How far a match moves, and the memory that it sets in its direction.
+struct AfterMatch {
+    by: usize,
+    forward: usize,
+    backward: usize,
+}
+
+/// "A state fits a needle and haystack when all hold". Either mode fits.
 pub fn fits(state: &State, m: usize, n: usize) -> bool {
     let lengths = state.m == m && state.n == n;
     let cursors = state.position <= n && state.end <= n;
@@ -114,8 +131,8 @@ impl Model {
                 let pass = self.reverse_maximal_suffix(word, *known, *greater);
                 Reply::ReverseSuffix { start: pass.start, rounds: pass.rounds }
             }
-            Case::Prepare { needle, n } => {
-                let (state, preparing) = self.prepare(needle, *n);
+            Case::Prepare { needle, n, mode } => {
+                let (state, preparing) = self.prepare(needle, *n, *mode);
                 Reply::Prepared { state, preparing }
             }
             Case::Search { needle, haystack, backward } => {
@@ -125,43 +142,49 @@ impl Model {
             Case::Call { call, needle, haystack, state } => {
                 Reply::Called(self.call(*call, needle, haystack, *state))
             }
-            Case::Walk { needle, haystack, script } => self.walk(needle, haystack, script),
+            Case::Walk { needle, haystack, mode, script } => {
+                self.walk(needle, haystack, *mode, script)
+            }
         }
     }
 
     /// The refusal that 01 gives to a case, if any.
     pub fn refusal_of(&self, case: &Case) -> Option<u8> {
-        let (m, n, state) = match case {
+        let (m, n, call) = match case {
             // "The two maximal suffix calls make only check 2, on their word."
             Case::Suffix { word, .. } | Case::ReverseSuffix { word, .. } => (word.len(), 0, None),
-            Case::Prepare { needle, n } => (needle.len(), *n, None),
+            Case::Prepare { needle, n, .. } => (needle.len(), *n, None),
             Case::Search { needle, haystack, .. } | Case::Walk { needle, haystack, .. } => {
                 (needle.len(), haystack.len(), None)
             }
-            Case::Call { needle, haystack, state, .. } => {
-                (needle.len(), haystack.len(), Some(state))
+            Case::Call { call, needle, haystack, state } => {
+                (needle.len(), haystack.len(), Some((*call, state)))
             }
         };
-        self.refusal(&Asked { m, n, state })
+        self.refusal(&Asked { m, n, call })
     }
 
     /// The refusal of a find or rfind, by the lengths alone.
     pub fn refusal_of_search(&self, m: usize, n: usize) -> Option<u8> {
-        self.refusal(&Asked { m, n, state: None })
+        self.refusal(&Asked { m, n, call: None })
     }
 
     /// "Checks run in the order 1, 2, 3, 4, and the first that applies is the answer"; but
-    /// "Preparing and walking no longer give refusal 3."
-    fn refusal(&self, &Asked { m, n, state }: &Asked) -> Option<u8> {
-        let empty_refused = self.fault == Fault::EmptyRefused && m == 0 && state.is_some();
+    /// "Preparing and walking no longer give refusal 3", and 5 is given "after check 4".
+    fn refusal(&self, &Asked { m, n, call }: &Asked) -> Option<u8> {
+        let empty_refused = self.fault == Fault::EmptyRefused && m == 0 && call.is_some();
+        let step_refused = call.is_some_and(|(call, state)| state.mode.refuses(call));
         let mut checks = [
             (HAYSTACK_TOO_LONG, n > HAYSTACK_BOUND),
             (NEEDLE_TOO_LONG, m > NEEDLE_BOUND),
             (NEEDLE_EMPTY, empty_refused),
-            (STATE_DOES_NOT_FIT, state.is_some_and(|state| !self.fits(state, m, n))),
+            (STATE_DOES_NOT_FIT, call.is_some_and(|(_, state)| !self.fits(state, m, n))),
+            (STEP_OVERLAPPING, step_refused && self.fault != Fault::StepNotRefused),
         ];
-        if self.fault == Fault::RefusalsInOtherOrder {
-            checks.reverse();
+        match self.fault {
+            Fault::RefusalsInOtherOrder => checks.reverse(),
+            Fault::StepRefusedBeforeFit => checks.swap(3, 4),
+            _ => {}
         }
         checks.iter().find(|check| check.1).map(|check| check.0)
     }
@@ -214,14 +237,14 @@ impl Model {
     }
 
     /// The state and the preparing count, for a needle and a length that are not refused.
-    pub fn prepare(&self, needle: &[u8], n: usize) -> (State, u64) {
+    pub fn prepare(&self, needle: &[u8], n: usize, mode: Mode) -> (State, u64) {
         let (kind, preparing) = if needle.is_empty() {
             (Kind::Empty { forward: true, backward: true }, 0)
         } else {
             let (two_way, preparing) = self.split(needle);
             (Kind::TwoWay(two_way), preparing)
         };
-        (State { m: needle.len(), n, position: 0, end: n, kind }, preparing)
+        (State { m: needle.len(), n, position: 0, end: n, mode, kind }, preparing)
     }
 
     /// The splits and all that goes with them, for a needle that has bytes.
@@ -285,10 +308,11 @@ impl Model {
     /// One call that takes a state.
     pub fn call(&self, call: Call, needle: &[u8], haystack: &[u8], state: State) -> Called {
         let (m, n) = (needle.len(), haystack.len());
-        if let Some(number) = self.refusal(&Asked { m, n, state: Some(&state) }) {
+        if let Some(number) = self.refusal(&Asked { m, n, call: Some((call, &state)) }) {
             return refused(number, state);
         }
-        match state.kind {
+        let mut called = match state.kind {
+            // "An empty needle gives the same list in both modes."
             Kind::Empty { forward, backward } => self.empty(call, state, forward, backward),
             Kind::TwoWay(two_way) => {
                 let counts = Counts::default();
@@ -301,7 +325,12 @@ impl Model {
                 let state = State { kind: Kind::TwoWay(walk.two_way), ..walk.state };
                 Called { answer, state, counts: walk.counts }
             }
+        };
+        if self.fault == Fault::CallFlipsMode {
+            let overlapping = state.mode == Mode::Overlapping;
+            called.state.mode = Mode::ALL[usize::from(!overlapping)];
         }
+        called
     }
 
     /// "forward Match(0,0), Reject(0,1), Match(1,1) up to Match(n,n), then Done; backward the
@@ -398,9 +427,32 @@ impl Model {
                 return false;
             }
         }
-        walk.state.position += m;
-        self.remember_forward(walk, 0);
+        let after = self.after_match(walk);
+        walk.state.position += after.by;
+        self.remember_forward(walk, after.forward);
         true
+    }
+
+    /// "No difference: move by m, memory 0", backward "Match, down by m, memory m"; but in
+    /// overlapping mode "move by p and keep memory m-p (backward p); Long moves by its stored p."
+    fn after_match(&self, walk: &Walk) -> AfterMatch {
+        let (m, TwoWay { p, memory, .. }) = (walk.state.m, walk.two_way);
+        if walk.state.mode == Mode::NonOverlapping {
+            return AfterMatch { by: m, forward: 0, backward: m };
+        }
+        let mut after = AfterMatch { by: p, forward: m - p, backward: p };
+        match self.fault {
+            Fault::MatchMovesByOne => after.by = 1,
+            Fault::MatchMovesByNeedle => after.by = m,
+            Fault::MatchForgets => after.forward = 0,
+            Fault::BackwardMatchForgets => after.backward = m,
+            Fault::BackwardMatchKeepsRest => after.backward = m - p,
+            Fault::LongMatchMovesBySmallestPeriod if memory == Memory::Long => {
+                after.by = naive::smallest_period(walk.needle);
+            }
+            _ => {}
+        }
+        after
     }
 
     /// "a difference moves by p"
@@ -466,8 +518,9 @@ impl Model {
                 return false;
             }
         }
-        walk.state.end -= m;
-        self.remember_backward(walk, m);
+        let after = self.after_match(walk);
+        walk.state.end -= after.by;
+        self.remember_backward(walk, after.backward);
         true
     }
 
@@ -527,7 +580,7 @@ impl Model {
         if needle.len() == 1 {
             return self.scan(needle[0], haystack, backward);
         }
-        let (state, preparing) = self.prepare(needle, n);
+        let (state, preparing) = self.prepare(needle, n, Mode::NonOverlapping);
         let call = if backward { Call::NextBack } else { Call::Next };
         let called = self.call(call, needle, haystack, state);
         let position = match called.answer {
@@ -558,8 +611,8 @@ impl Model {
     }
 
     /// Preparing, then the calls of the script, each with the state of the one before.
-    fn walk(&self, needle: &[u8], haystack: &[u8], script: &[Call]) -> Reply {
-        let (mut state, preparing) = self.prepare(needle, haystack.len());
+    fn walk(&self, needle: &[u8], haystack: &[u8], mode: Mode, script: &[Call]) -> Reply {
+        let (mut state, preparing) = self.prepare(needle, haystack.len(), mode);
         let mut calls = Vec::with_capacity(script.len());
         for &call in script {
             let called = self.call(call, needle, haystack, state);

@@ -37,6 +37,11 @@ pub fn greedy(needle: &[u8], haystack: &[u8]) -> Vec<usize> {
     list
 }
 
+/// "every occurrence, not the non-overlapping ones": each place is tried by itself.
+pub fn every(needle: &[u8], haystack: &[u8]) -> Vec<usize> {
+    (0..=haystack.len()).filter(|&i| haystack[i..].starts_with(needle)).collect()
+}
+
 /// "A period of a nonempty word x is a number r, 0 < r <= |x|, with x[i] = x[i+r] wherever
 /// both exist." For an empty word 1, as 01 asks of its maximal suffix.
 pub fn smallest_period(word: &[u8]) -> usize {

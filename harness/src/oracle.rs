@@ -14,6 +14,7 @@
 //! differ, `oracle answer` prints a line that begins with DISAGREE to standard error and ends
 //! with status 1.
 
+use harness::compare::Run;
 use harness::{broken, compare, judge, list, program};
 use std::fmt::Display;
 use std::io::{self, BufRead, Write};
@@ -72,7 +73,10 @@ fn compare(options: &[&str]) -> ExitCode {
         return program::usage(USAGE);
     };
     let size = if long { compare::LONG_RUN } else { compare::SHORT_RUN };
-    let outcome = compare::compare(seed, &size);
-    let shown = outcome.map(|cases| format!("{cases} cases")).map_err(|failure| failure.shown());
-    program::report("compare", seed, shown)
+    let shown = compare::compare(seed, &size).map(|run| {
+        let Run { cases, greatest, greatest_twice, .. } = run;
+        let greatest = format!("{greatest}, and where n is at least 2m {greatest_twice}");
+        format!("{cases} cases (greatest of an overlapping walk: {greatest})")
+    });
+    program::report("compare", seed, shown.map_err(|failure| failure.shown()))
 }

@@ -13,6 +13,7 @@ mod plain {
     pub use self::twoway::{find_bytes, rfind_bytes};
     use self::twoway::{probe, TwoWaySearcher};
     use crate::case::*;
+    use crate::limits::STEP_OVERLAPPING;
 
     fn counts() -> Counts {
         Counts::default()
@@ -27,6 +28,7 @@ mod counted {
     extern crate twoway_counted;
     use self::twoway_counted::{find_bytes, probe, rfind_bytes, TwoWaySearcher};
     use crate::case::*;
+    use crate::limits::STEP_OVERLAPPING;
 
     fn counts() -> Counts {
         let [preparing, comparisons, tests] = tally::take();

@@ -114,5 +114,24 @@ pub mod probe {
         ) -> Option<(usize, usize)> {
             self.run(|searcher, long| searcher.next_back::<MatchOnly>(haystack, needle, long))
         }
+
+        /// The original has no overlapping matches, but its notes say how to have them. For a
+        /// searcher that has just found the needle at `start`: "add self.period instead of
+        /// needle.len()", and memory "set to needle.len() - self.period".
+        pub fn overlap(&mut self, start: usize, needle: &[u8]) {
+            self.position = start + self.period;
+            if let Some((ref mut memory, _)) = self.memory {
+                *memory = needle.len() - self.period;
+            }
+        }
+
+        /// The same where the needle was found up to `end`, backward: "sub self.period instead of
+        /// needle.len()". For memory the notes say nothing here, but 02 says p.
+        pub fn overlap_back(&mut self, end: usize) {
+            self.end = end - self.period;
+            if let Some((_, ref mut memory_back)) = self.memory {
+                *memory_back = self.period;
+            }
+        }
     }
 }

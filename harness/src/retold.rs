@@ -7,6 +7,7 @@
 //! them against the original's own, run over the traits in pattern.rs, where a character is a byte.
 
 use crate::case::*;
+use crate::limits::STEP_OVERLAPPING;
 
 pub struct EmptyNeedle {
     position: usize,
@@ -81,8 +82,12 @@ impl EmptyNeedle {
 
     /// One call, up to the difference that 02 asks for: "In the Rust the flag flips again after
     /// Done, so a further call gives Match at the end once more. Ours stays Done". So the flags are
-    /// put back where it says Done, and nothing else is.
-    fn staying_done(&mut self, call: Call, haystack: &[u8]) -> Answer {
+    /// put back where it says Done, and nothing else is. It has no modes: a step in overlapping
+    /// mode is refused before it is asked.
+    fn staying_done(&mut self, call: Call, mode: Mode, haystack: &[u8]) -> Answer {
+        if mode.refuses(call) {
+            return Answer::Refused(STEP_OVERLAPPING);
+        }
         let flags = (self.is_match_fw, self.is_match_bw);
         let answer = self.called(call, haystack);
         if matches!(answer, Answer::Done | Answer::None) {
@@ -91,9 +96,9 @@ impl EmptyNeedle {
         answer
     }
 
-    fn state(&self, n: usize) -> State {
+    fn state(&self, n: usize, mode: Mode) -> State {
         let kind = Kind::Empty { forward: self.is_match_fw, backward: self.is_match_bw };
-        State { m: 0, n, position: self.position, end: self.end, kind }
+        State { m: 0, n, position: self.position, end: self.end, mode, kind }
     }
 }
 
@@ -101,25 +106,24 @@ impl EmptyNeedle {
 /// not refused: it has no refusals.
 pub fn reply(case: &Case) -> Option<Reply> {
     match case {
-        Case::Prepare { needle, n } if needle.is_empty() => {
-            Some(Reply::Prepared { state: EmptyNeedle::new(*n).state(*n), preparing: 0 })
+        Case::Prepare { needle, n, mode } if needle.is_empty() => {
+            Some(Reply::Prepared { state: EmptyNeedle::new(*n).state(*n, *mode), preparing: 0 })
         }
         Case::Call { call, haystack, state, .. } => {
-            let State { position, end, kind: Kind::Empty { forward, backward }, .. } = *state
-            else {
-                return None;
-            };
+            let State { position, end, mode, kind, .. } = *state;
+            let Kind::Empty { forward, backward } = kind else { return None };
             let (is_match_fw, is_match_bw) = (forward, backward);
             let mut searcher = EmptyNeedle { position, end, is_match_fw, is_match_bw };
-            let answer = searcher.staying_done(*call, haystack);
-            let state = searcher.state(haystack.len());
+            let answer = searcher.staying_done(*call, mode, haystack);
+            let state = searcher.state(haystack.len(), mode);
             Some(Reply::Called(Called { answer, state, counts: Counts::default() }))
         }
-        Case::Walk { needle, haystack, script } if needle.is_empty() => {
+        Case::Walk { needle, haystack, mode, script } if needle.is_empty() => {
             let mut searcher = EmptyNeedle::new(haystack.len());
-            let one = |&call| (searcher.staying_done(call, haystack), Counts::default());
+            let one = |&call| (searcher.staying_done(call, *mode, haystack), Counts::default());
             let calls = script.iter().map(one).collect();
-            Some(Reply::Walked { preparing: 0, calls, state: searcher.state(haystack.len()) })
+            let state = searcher.state(haystack.len(), *mode);
+            Some(Reply::Walked { preparing: 0, calls, state })
         }
         _ => None,
     }

@@ -3,11 +3,6 @@
 use crate::case::*;
 use crate::words::Dice;
 
-/// A state at the start.
-fn prepared(m: usize, n: usize, kind: Kind) -> State {
-    State { m, n, position: 0, end: n, kind }
-}
-
 /// Short, with no byte in its set.
 fn short(m: usize) -> TwoWay {
     TwoWay { c: 0, b: m, p: m, set: 0, memory: Memory::Short { forward: 0, backward: m } }
@@ -18,8 +13,8 @@ fn long(m: usize, c: usize) -> TwoWay {
 }
 
 /// A state at the start, Short and with no byte in its set; it fits if m is not 0.
-pub fn at_start(m: usize, n: usize) -> State {
-    prepared(m, n, Kind::TwoWay(short(m)))
+pub fn at_start(m: usize, n: usize, mode: Mode) -> State {
+    State { m, n, position: 0, end: n, mode, kind: Kind::TwoWay(short(m)) }
 }
 
 /// Every way of splits and memory that fits a needle of m bytes.
@@ -33,10 +28,12 @@ fn all_splits(m: usize) -> Vec<TwoWay> {
             }
         }
     }
+    // With p = m there is one memory.
+    all.dedup();
     all
 }
 
-/// Every fitting state with that byteset; an empty needle's have none.
+/// Every fitting state with that byteset, in both modes; an empty needle's have no byteset.
 pub fn all_fitting(m: usize, n: usize, set: u64) -> impl Iterator<Item = State> {
     let cursors = (0..=n).flat_map(move |position| (0..=n).map(move |end| (position, end)));
     let kinds: Vec<Kind> = if m == 0 {
@@ -46,15 +43,15 @@ pub fn all_fitting(m: usize, n: usize, set: u64) -> impl Iterator<Item = State> 
         all_splits(m).into_iter().map(|splits| Kind::TwoWay(TwoWay { set, ..splits })).collect()
     };
     cursors.flat_map(move |(position, end)| {
-        let state = move |&kind: &Kind| State { m, n, position, end, kind };
-        kinds.iter().map(state).collect::<Vec<State>>()
+        let state = |&kind| Mode::ALL.map(|mode| State { m, n, position, end, mode, kind });
+        kinds.iter().flat_map(state).collect::<Vec<State>>()
     })
 }
 
 /// A seeded fitting state; its splits belong to no bytes in particular.
-pub fn any_fitting(dice: &mut Dice, m: usize, n: usize, set: u64) -> State {
+pub fn any_fitting(dice: &mut Dice, m: usize, n: usize, mode: Mode, set: u64) -> State {
     let (position, end) = (dice.between(0, n), dice.between(0, n));
-    State { position, end, ..prepared(m, n, any_kind(dice, m, set)) }
+    State { m, n, position, end, mode, kind: any_kind(dice, m, set) }
 }
 
 fn any_kind(dice: &mut Dice, m: usize, set: u64) -> Kind {
@@ -98,7 +95,7 @@ pub fn with_one_change(state: &State) -> Vec<State> {
 
 /// Every number of the state but the byteset.
 fn numbers(state: &mut State) -> Vec<&mut usize> {
-    let State { m, n, position, end, kind } = state;
+    let State { m, n, position, end, kind, mode: _ } = state;
     let mut numbers = vec![m, n, position, end];
     if let Kind::TwoWay(TwoWay { c, b, p, memory, .. }) = kind {
         numbers.extend([c, b, p]);

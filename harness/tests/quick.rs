@@ -1,7 +1,7 @@
 //! The quick tests: what `harness/check` runs at scale, in some seconds.
 
 use harness::broken;
-use harness::case::{Answer, Call, Kind, State};
+use harness::case::{Answer, Call, Case, Kind, Mode, Reply, State};
 use harness::compare::{compare, QUICK_RUN};
 use harness::examples;
 use harness::exhaustive;
@@ -13,6 +13,8 @@ use harness::meaning;
 use harness::model::{Fault, Model, RULES};
 use harness::program;
 use harness::retold::EmptyNeedle;
+use harness::scripts;
+use harness::words;
 
 const STORED_CASES: &[u8] = include_bytes!("../../crates/walk/stdin");
 const STORED_ANSWERS: &[u8] = include_bytes!("../../crates/walk/stdout");
@@ -96,9 +98,27 @@ fn a_flag_is_one_digit() {
     let flags = ["0", "1", "", "2", "00", "01", "10", "11", "-", "+1", "f", "F", "\0", "1\0"];
     for (i, forward) in flags.iter().enumerate() {
         for (j, backward) in flags.iter().enumerate() {
-            let text = format!("step - 61 E:0:1:1:0:{forward}:{backward}");
+            let text = format!("step - 61 E:0:1:1:0:n:{forward}:{backward}");
             let printed = line::parse(text.as_bytes()).map(|case| line::show_case(&case));
             assert_eq!(printed, Some(text).filter(|_| i < 2 && j < 2));
+        }
+    }
+}
+
+/// Every mode that a line can name, to the byte, in each place that names one.
+#[test]
+fn a_mode_is_one_letter() {
+    let modes = ["n", "o", "", "x", "N", "O", "no", "on", "nn", "oo", "0", "1", "-", "\0", "n\0"];
+    for (i, mode) in modes.iter().enumerate() {
+        for text in [
+            format!("prep 61 2 {mode}"),
+            format!("walk 61 6161 {mode} F"),
+            format!("next 61 6161 S:1:2:0:2:{mode}:0:1:1:0000000200000000:0:1"),
+            format!("next 6162 6161 L:2:2:0:2:{mode}:1:1:2:0000000600000000"),
+            format!("next - 61 E:0:1:1:0:{mode}:0:1"),
+        ] {
+            let printed = line::parse(text.as_bytes()).map(|case| line::show_case(&case));
+            assert_eq!(printed, Some(text).filter(|_| i < 2));
         }
     }
 }
@@ -112,7 +132,7 @@ fn done_stays_done() {
         let mut original = EmptyNeedle::new(0);
         let given = [(); 4].map(|()| original.called(call, b""));
         assert_eq!(given, [Match(0, 0), Done, Match(0, 0), Done]);
-        let (mut state, _) = RULES.prepare(b"", 0);
+        let (mut state, _) = RULES.prepare(b"", 0, Mode::NonOverlapping);
         let given = [(); 4].map(|()| {
             let called = RULES.call(call, b"", b"", state);
             state = called.state;
@@ -120,32 +140,99 @@ fn done_stays_done() {
         });
         assert_eq!(given, [Match(0, 0), Done, Done, Done]);
         let kind = Kind::Empty { forward, backward: !forward };
-        assert_eq!(state, State { m: 0, n: 0, position: 0, end: 0, kind });
+        let mode = Mode::NonOverlapping;
+        assert_eq!(state, State { m: 0, n: 0, position: 0, end: 0, mode, kind });
     }
 }
 
 /// The meaning alone, without the original told again.
 #[test]
 fn wrong_walks_of_an_empty_needle_have_another_meaning() {
-    let caught = |fault| {
-        let model = Model { fault };
-        exhaustive::empty_walks().any(|case| meaning::check(&case, &model.reply(&case)).is_err())
-    };
-    assert!(!caught(Fault::None));
+    let walks = || exhaustive::empty_walks(Mode::NonOverlapping);
+    assert!(has_its_meaning(Fault::None, walks()));
     for fault in [Fault::DoneFlipsFlag, Fault::OneFlag, Fault::RejectPastEnd, Fault::EmptyRefused] {
-        assert!(caught(fault), "{fault:?}");
+        assert!(!has_its_meaning(fault, walks()), "{fault:?}");
+    }
+}
+
+fn has_its_meaning(fault: Fault, mut cases: impl Iterator<Item = Case>) -> bool {
+    let model = Model { fault };
+    cases.all(|case| meaning::check(&case, &model.reply(&case)).is_ok())
+}
+
+/// Overlapping walks of all words of a few letters.
+fn overlapping_walks() -> impl Iterator<Item = Case> {
+    let pairs = words::pairs((b"ab", 5), (b"ab", 9));
+    pairs.flat_map(|(needle, haystack)| {
+        scripts::overlapping(&needle, &haystack).map(|script| {
+            let (needle, haystack) = (needle.clone(), haystack.clone());
+            Case::Walk { needle, haystack, mode: Mode::Overlapping, script }
+        })
+    })
+}
+
+/// The meaning alone, without the original. Where a match forgets, the list is the same, but 2n-m
+/// does not hold: "aaa" in "aaaaaa".
+#[test]
+fn wrong_overlapping_walks_have_another_meaning() {
+    use Fault::*;
+    assert!(has_its_meaning(None, overlapping_walks()));
+    for fault in [
+        MatchMovesByOne,
+        MatchMovesByNeedle,
+        MatchForgets,
+        BackwardMatchForgets,
+        BackwardMatchKeepsRest,
+        LongMatchMovesBySmallestPeriod,
+        StepNotRefused,
+        CallFlipsMode,
+    ] {
+        assert!(!has_its_meaning(fault, overlapping_walks()), "{fault:?}");
+    }
+}
+
+/// The matches that a walk to the end gives.
+fn matches(needle: &[u8], haystack: &[u8], mode: Mode, call: Call) -> Vec<usize> {
+    let script = scripts::whole(needle, haystack, mode, &[call]);
+    let (needle, haystack) = (needle.to_vec(), haystack.to_vec());
+    let reply = RULES.reply(&Case::Walk { needle, haystack, mode, script });
+    let Reply::Walked { calls, .. } = reply else { panic!("{reply:?}") };
+    let start = |(answer, _): &(Answer, _)| match answer {
+        Answer::Match(start, _) => Some(*start),
+        _ => None,
+    };
+    calls.iter().filter_map(start).collect()
+}
+
+/// "aa" in "aaaa" at 0, 1, 2, "rising forward and falling backward"
+#[test]
+fn next_match_lists_every_occurrence() {
+    let list = |mode, call| matches(b"aa", b"aaaa", mode, call);
+    assert_eq!(list(Mode::NonOverlapping, Call::Next), [0, 2]);
+    assert_eq!(list(Mode::NonOverlapping, Call::NextBack), [2, 0]);
+    assert_eq!(list(Mode::Overlapping, Call::Next), [0, 1, 2]);
+    assert_eq!(list(Mode::Overlapping, Call::NextBack), [2, 1, 0]);
+    for n in 0..20 {
+        for call in [Call::Next, Call::NextBack] {
+            let list = |mode| matches(b"", &words::power(b"ab", n), mode, call);
+            assert_eq!(list(Mode::NonOverlapping), list(Mode::Overlapping));
+        }
     }
 }
 
 #[test]
 fn lines_have_limits() {
     let search = |bytes| format!("find {} {}", "61".repeat(bytes), "62".repeat(bytes));
-    let walk = |letters| format!("walk 61 62 {}", "f".repeat(letters));
+    let walk = |letters| format!("walk 61 62 n {}", "f".repeat(letters));
     let taken = |text: String| line::parse(text.as_bytes()).is_some();
     assert!(taken(search(WORD_BYTES)) && !taken(search(WORD_BYTES + 1)));
     assert!(taken(walk(SCRIPT_LETTERS)) && !taken(walk(SCRIPT_LETTERS + 1)));
     assert!(!taken(walk(0)) && !taken(search(0)));
     assert!(taken("find - -\r".to_string()) && !taken("find - -\r\r".to_string()));
+    // The longest line of all, as docs/LINES.md has it.
+    let read = list::lines().into_iter().filter(|text| taken(text.clone()));
+    let longest = read.map(|text| text.trim_end_matches('\r').len()).max();
+    assert_eq!(longest, Some(16_649));
 }
 
 #[test]

@@ -1,5 +1,5 @@
--- What a call does to a two way state that fits: it is not refused, it is a search that moves its own direction's cursor, or nothing where a step answers Done,
--- and the state that it hands back fits again. This holds of every such state, prepared or not.
+-- What a call does to a two way state that fits: it is a search that moves its own direction's cursor, or nothing where a step answers Done or is refused
+-- because matches may overlap, and the state that it hands back fits again. This holds of every such state, prepared or not.
 -- m is the needle's size and n the haystack's.
 -- Assumes nothing.
 use Prim.Native.Nat.{ℕ, _+_, _-_, _≤_}
@@ -12,7 +12,8 @@ use lib.Dec.{eqb}
 use lib.ListN.{length}
 use borrow.Author.Tests.{eqb-true, eqb-false}
 use Rattle.words.specs.Word.{front, mirror}
-use Rattle.limits.specs.declared.Check.{Check}
+use Rattle.limits.specs.Checks.{refuseIf}
+use Rattle.limits.specs.declared.Refusal.the-variants.{StepOverlapping}
 use Rattle.limits.proofs.Room.{haystack-room, needle-room}
 use Rattle.limits.proofs.Checks.{within-passes}
 use Rattle.byteset.specs.Fingerprint.{has}
@@ -26,16 +27,16 @@ use Rattle.record.specs.declared.Kind.the-variants.{TwoWay}
 use Rattle.record.specs.declared.Fixed.{Fixed}
 use Rattle.record.specs.declared.Moving.{Moving}
 use Rattle.record.specs.Fits.{fits, fitting}
-use Rattle.record.specs.Kinds.{flagsOf, forwardPlan, backwardPlan, forwardCursor, backwardCursor, movedForward, movedBackward, backwardPeriodMemory}
-use Rattle.record.proofs.Fitting.{two-way-some, fits-forward, fits-backward}
+use Rattle.record.specs.Kinds.{flagsOf, overlaps, forwardPlan, backwardPlan, forwardCursor, backwardCursor, movedForward, movedBackward, backwardPeriodMemory}
+use Rattle.record.proofs.Fitting.{forward-follows, backward-follows, two-way-some, fits-forward, fits-backward}
 use Rattle.record.proofs.Moved.{Goes, known-now, known-back-now, moved-forward, moved-backward}
 use Rattle.search.specs.declared.Ending.{Ending}
 use Rattle.search.specs.declared.Walked.{Walked}
-use Rattle.search.specs.Calls.{refusal, free, endingOf, forward, backward, walkedForward, walkedBackward, forwardBy, backwardBy, forwardCall, backwardCall}
+use Rattle.search.specs.Calls.{stepCheck, refusal, free, endingOf, orWalked, forward, backward, walkedForward, walkedBackward, forwardBy, backwardBy, forwardCall, backwardCall}
 use Rattle.searcher.specs.Walk.{stepAnswer, matchAnswer}
 use Rattle.demands.specs.Allowed.{Allowed}
 use Rattle.demands.specs.Reached.{stepMatches, nextMatches}
-use Rattle.demands.proofs.OneWay.{searched, hits, Remembered, searched-memory}
+use Rattle.demands.proofs.OneWay.{searched, hits, Remembered, follows-remembered, searched-memory}
 
 -- ---- the answers
 
@@ -65,10 +66,22 @@ by-done P {still} {more} true a b p q = go (eqb a b) refl
     go false e = q (λ s. eqb-false a b e)
 by-done P false a b p q = q (λ s. let z : _≡_ {A = ℕ} 0 1 = cc in absurd (apart z))
 
--- no check refuses a state that fits
-pub passes : (needle haystack : List ℕ) → Allowed needle haystack → (f : Fixed) (s : Moving) → fits needle haystack f s ≡ true → refusal needle haystack f s ≡ Check.Pass
+-- of the checks only the last can refuse a state that fits
+pub passes : (needle haystack : List ℕ) → Allowed needle haystack → (f : Fixed) (s : Moving) → fits needle haystack f s ≡ true → (stepping : Bool)
+    → refusal stepping needle haystack f s ≡ stepCheck stepping (f .mode)
 unfolding refusal fitting
-passes needle haystack ok f s fit = rw (within-passes (length haystack) (length needle) (ok .within), fit)
+passes needle haystack ok f s fit stepping = rw (within-passes (length haystack) (length needle) (ok .within), fit)
+
+-- it refuses a step where matches may overlap
+pub by-check : (P : Walked → Type 0) (stepping : Bool) (f : Fixed) (s : Moving) {otherwise : Walked}
+    → ((stepping && overlaps (f .mode)) ≡ true → P (free (Ending.Refused StepOverlapping) s))
+    → ((stepping && overlaps (f .mode)) ≡ false → P otherwise)
+    → P (orWalked (stepCheck stepping (f .mode)) s otherwise)
+by-check P stepping f s {otherwise} refuses passes-it = go (stepping && overlaps (f .mode)) refl
+  where
+    go : (b : Bool) → (stepping && overlaps (f .mode)) ≡ b → P (orWalked (refuseIf b StepOverlapping) s otherwise)
+    go true e = refuses e
+    go false e = passes-it e
 
 module _ (needle haystack : List ℕ) (ok : Allowed needle haystack) (f : Fixed) (s : Moving) (fit : fits needle haystack f s ≡ true) (two-way : s .kind ≡ TwoWay) where
   abbrev m : ℕ
@@ -105,45 +118,50 @@ module _ (needle haystack : List ℕ) (ok : Allowed needle haystack) (f : Fixed)
       let v = fits-forward needle haystack f s fit two-way in
       let ends = search-ends (has (f .byteset)) plan (front needle) (front haystack) (v .shape) stepping (s .position) (n + 1) (forwardCursor s) 0 0 (v .within) in
       moved-forward needle haystack f s fit two-way _ (ends .1)
-      (searched-memory (has (f .byteset)) (front needle) (front haystack) stepping (forwardCursor s) (v .shape) (inl refl) (known-now needle haystack f s fit two-way))
+      (searched-memory (has (f .byteset)) (front needle) (front haystack) stepping (forwardCursor s) (v .shape) (follows-remembered (forward-follows m f (s .memory))) (known-now needle haystack f s fit two-way))
 
   pub backward-goes : (stepping : Bool) → let r = backward stepping needle haystack f s in Goes needle haystack f s (movedBackward s (r .cursor)) (forwardCursor s) (r .cursor)
   backward-goes stepping =
       let b = fits-backward needle haystack f s fit two-way in
       let start = mirrored-cursor m n (backwardCursor m s) in
       let same = backward-mirrored stepping .cursors in
-      let cleared : Remembered (mirroredPlan m back-plan) (mirroredPlan m back-plan .«shift_memory») = inl (omega arith) in
       let in-needle : backwardPeriodMemory m (f .period) (s .memory) ≤ m = b .back .period-memory-in in
       let before : Remembered (mirroredPlan m back-plan) (start .memory) = ⊎-elim (λ e. inl (omega arith)) (λ e. inr (omega arith)) (known-back-now needle haystack f s fit two-way) in
       moved-backward needle haystack f s fit two-way _ (omega arith)
       (⊎-elim (λ e. inl (omega arith)) (λ e. inr (omega arith))
-      (searched-memory (has (f .byteset)) (mirror (front needle)) (mirror (front haystack)) stepping start (b .shape) cleared before))
+      (searched-memory (has (f .byteset)) (mirror (front needle)) (mirror (front haystack)) stepping start (b .shape) (follows-remembered (backward-follows m f (s .memory))) before))
 
   -- ---- the calls
 
   module _ (P : Walked → Type 0) (stepping : Bool) where
-    pub forward-cases : (stepping ≡ true → s .position ≡ n → P (free Ending.Done s))
-        → ((stepping ≡ true → s .position ≡ n → ⊥) → P (walkedForward m s (forward stepping needle haystack f s)))
+    -- a step that is refused
+    abbrev Overlapping : Type 0
+    Overlapping = (stepping && overlaps (f .mode)) ≡ true → P (free (Ending.Refused StepOverlapping) s)
+
+    pub forward-cases : Overlapping → (stepping ≡ true → s .position ≡ n → P (free Ending.Done s))
+        → ((stepping && overlaps (f .mode)) ≡ false → (stepping ≡ true → s .position ≡ n → ⊥) → P (walkedForward m s (forward stepping needle haystack f s)))
         → P (forwardCall stepping needle haystack f s)
     unfolding forwardCall
-    forward-cases still more =
-        rw (passes needle haystack ok f s fit)
-        (subst (λ kind. P (forwardBy (flagsOf kind) stepping needle haystack f s)) (sym two-way) (by-done P stepping (s .position) n still more))
+    forward-cases refuses still more =
+        rw (passes needle haystack ok f s fit stepping)
+        (by-check P stepping f s refuses
+        (λ e. subst (λ kind. P (forwardBy (flagsOf kind) stepping needle haystack f s)) (sym two-way) (by-done P stepping (s .position) n still (more e))))
 
-    pub backward-cases : (stepping ≡ true → s .end ≡ 0 → P (free Ending.Done s))
-        → ((stepping ≡ true → s .end ≡ 0 → ⊥) → P (walkedBackward m s (backward stepping needle haystack f s)))
+    pub backward-cases : Overlapping → (stepping ≡ true → s .end ≡ 0 → P (free Ending.Done s))
+        → ((stepping && overlaps (f .mode)) ≡ false → (stepping ≡ true → s .end ≡ 0 → ⊥) → P (walkedBackward m s (backward stepping needle haystack f s)))
         → P (backwardCall stepping needle haystack f s)
     unfolding backwardCall
-    backward-cases still more =
-        rw (passes needle haystack ok f s fit)
-        (subst (λ kind. P (backwardBy (flagsOf kind) stepping needle haystack f s)) (sym two-way) (by-done P stepping (s .end) 0 still more))
+    backward-cases refuses still more =
+        rw (passes needle haystack ok f s fit stepping)
+        (by-check P stepping f s refuses
+        (λ e. subst (λ kind. P (backwardBy (flagsOf kind) stepping needle haystack f s)) (sym two-way) (by-done P stepping (s .end) 0 still (more e))))
 
   not-stepping : {A : Type 0} → _≡_ {A = Bool} false true → A
   not-stepping e = let z : _≡_ {A = ℕ} 0 1 = cc in absurd (apart z)
 
   -- a next match is a search
   pub next-match-walked : forwardCall false needle haystack f s ≡ walkedForward m s (forward false needle haystack f s)
-  next-match-walked = forward-cases (λ r. r ≡ walkedForward m s (forward false needle haystack f s)) false not-stepping (λ e. refl)
+  next-match-walked = forward-cases (λ r. r ≡ walkedForward m s (forward false needle haystack f s)) false not-stepping not-stepping (λ _ e. refl)
 
   pub next-match-back-walked : backwardCall false needle haystack f s ≡ walkedBackward m s (backward false needle haystack f s)
-  next-match-back-walked = backward-cases (λ r. r ≡ walkedBackward m s (backward false needle haystack f s)) false not-stepping (λ e. refl)
+  next-match-back-walked = backward-cases (λ r. r ≡ walkedBackward m s (backward false needle haystack f s)) false not-stepping not-stepping (λ _ e. refl)

@@ -1,5 +1,5 @@
 -- Demand 3: a whole walk one way makes at most 2n-m comparisons and n-m+1 tests, however its calls are mixed with those of the other way.
--- No premise is on the bytes: it holds from every state of either kind that fits on, with n the bytes left. An empty needle costs nothing.
+-- No premise is on the bytes: it holds from every state that fits on, of either kind and in either mode, with n the bytes left. An empty needle costs nothing.
 -- Assumes nothing.
 use Prim.Native.Nat.{ℕ, _-_}
 use mathlib.Core.Path.{_≡_}
@@ -11,6 +11,7 @@ use lib.ListN.{length}
 use Rattle.searcher.specs.declared.TwoWaySearcher.{TwoWaySearcher}
 use Rattle.searcher.specs.Walk.{newRule}
 use Rattle.record.specs.declared.Kind.the-variants.{TwoWay}
+use Rattle.record.specs.declared.Mode.{Mode}
 use Rattle.record.specs.Fits.{fits}
 use Rattle.record.proofs.Fitting.{some-two-way, fits-forward, fits-backward}
 use Rattle.demands.specs.Allowed.{Allowed}
@@ -48,10 +49,10 @@ module _ (needle haystack : List ℕ) (ok : Allowed needle haystack) (s₀ : Two
   pub costs : Cost
   costs = elim (ℕ-discrete (length needle) 0) [ yes blank ↦ empty-costs blank | no some ↦ two-way-costs (some-two-way needle haystack (s₀ .fixed) (s₀ .moving) fit (omega arith)) ]
 
-pub demand-3 : (needle haystack : List ℕ) → Allowed needle haystack → (calls : List Call) → Demand3 needle haystack calls
-demand-3 needle haystack ok calls =
+pub demand-3 : (needle haystack : List ℕ) (mode : Mode) → Allowed needle haystack → (calls : List Call) → Demand3 needle haystack mode calls
+demand-3 needle haystack mode ok calls =
     let n = length haystack in
-    let s₀ = newRule needle n .walk in
-    let start = prepared-ready needle haystack ok in
+    let s₀ = newRule needle n mode .walk in
+    let start = prepared-ready needle haystack mode ok in
     let left : n - s₀ .moving .position ≡ n = let e = start .position-is in omega arith in
     record { walking = rw (left, start .end-is) at (costs needle haystack ok s₀ (start .fit) calls); preparing = start .few }

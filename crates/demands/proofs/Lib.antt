@@ -9,3 +9,4 @@ pub mod Costs
 pub mod Answers
 pub mod Meaning
 pub mod EveryPlace
+pub mod Overlapping

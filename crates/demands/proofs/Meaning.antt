@@ -1,9 +1,9 @@
 -- Demand 2: what the answers and the matches of a walk mean, after any mix of calls from preparing on.
 -- What holds of a walk in one direction (OneWay) is read off for each direction; the backward theorems are the forward ones of the mirrored words.
 -- Assumes nothing.
-use Prim.Native.Nat.{ℕ, _+_, _-_, _<_, _≤_}
-use mathlib.Core.Path.{_≡_, refl, sym, subst}
-use mathlib.Core.Bool.{Bool, true, false, false≢true}
+use Prim.Native.Nat.{ℕ, _+_, _-_, _<_, _≤_, max}
+use mathlib.Core.Path.{_≡_, refl, sym, _∙_, ap, subst}
+use mathlib.Core.Bool.{Bool, true, false, cond, false≢true}
 use mathlib.Core.List.{List, [], map, append-nil, map-append}
 use mathlib.Core.Logic.{⊎-elim}
 use native.Mathlib.Omega.{arith}
@@ -19,7 +19,9 @@ use Rattle.windows.specs.Mirror.{mirroredPlan, mirrored-cursor}
 use Rattle.record.specs.declared.Kind.the-variants.{Empty}
 use Rattle.record.specs.declared.Fixed.{Fixed}
 use Rattle.record.specs.declared.Moving.{Moving}
-use Rattle.record.specs.Kinds.{forwardPlan, backwardPlan, forwardCursor, backwardCursor}
+use Rattle.record.specs.declared.Mode.{Mode}
+use Rattle.record.specs.Fits.{fits}
+use Rattle.record.specs.Kinds.{overlaps, forwardPlan, backwardPlan, forwardCursor, backwardCursor}
 use Rattle.record.proofs.Fitting.{StateFits, state, fits-backward}
 use Rattle.search.specs.Calls.{forward}
 use Rattle.searcher.specs.declared.TwoWaySearcher.{TwoWaySearcher}
@@ -32,6 +34,7 @@ use Rattle.demands.specs.Means.{AnswersLeast, AnswersGreatest, StepMeans
 use Rattle.demands.proofs.OneWay.{Holds, whole-holds, holds-next, holds-step}
 use Rattle.demands.proofs.Calls.{backward-mirrored, forward-cases, backward-cases, next-match-walked, next-match-back-walked}
 use Rattle.demands.proofs.Turns.{stands, least-here, none-past, greatest-here, forward-turns, backward-turns, open-given, open-later, open-back-given, open-back-later}
+use Rattle.demands.proofs.Stays.{fits-stays, fixed-stays}
 use Rattle.demands.proofs.Walks.{Walks, walks}
 use Rattle.demands.proofs.Places.{Places, places, by-empty}
 use Rattle.demands.proofs.Start.{Starts, Ready, prepared-starts, prepared-ready}
@@ -40,15 +43,16 @@ use Rattle.demands.proofs.Answers.{answers-least, answers-greatest, ste
 -- ---- a reached state, of either kind
 
 -- what its next calls answer, and the lists that it has given
-pub record Means (needle haystack : List ℕ) (H : History) : Type 0 where
-  pub forward-list : ForwardList needle haystack H (gapOf needle)
+pub record Means (needle haystack : List ℕ) (mode : Mode) (H : History) : Type 0 where
+  pub fit : fits needle haystack (H .walk .fixed) (H .walk .moving) ≡ true
+  pub forward-list : ForwardList needle haystack H (gapOf mode needle)
   pub next-match-means : NextMatchMeans needle haystack H
-  pub step-means : NextMeans needle haystack H
-  pub backward-list : BackwardList needle haystack H (gapOf needle)
+  pub step-means : overlaps mode ≡ false → NextMeans needle haystack H
+  pub backward-list : BackwardList needle haystack H (gapOf mode needle)
   pub next-match-back-means : NextMatchBackMeans needle haystack H
-  pub step-back-means : NextBackMeans needle haystack H
+  pub step-back-means : overlaps mode ≡ false → NextBackMeans needle haystack H
 
-module _ (needle haystack : List ℕ) (ok : Allowed needle haystack) (calls : List Call) where
+module _ (needle haystack : List ℕ) (mode : Mode) (ok : Allowed needle haystack) (calls : List Call) where
   abbrev x : Word
   x = front needle
 
@@ -56,7 +60,7 @@ module _ (needle haystack : List ℕ) (ok : Allowed needle haystack) (calls : Li
   h = front haystack
 
   abbrev H : History
-  H = reached needle haystack calls
+  H = reached needle haystack mode calls
 
   abbrev f : Fixed
   f = H .walk .fixed
@@ -65,10 +69,18 @@ module _ (needle haystack : List ℕ) (ok : Allowed needle haystack) (calls : Li
   s = H .walk .moving
 
   abbrev s₀ : TwoWaySearcher
-  s₀ = newRule needle (length haystack) .walk
+  s₀ = newRule needle (length haystack) mode .walk
 
   abbrev gap : ℕ
-  gap = gapOf needle
+  gap = gapOf mode needle
+
+  -- no call has changed the mode
+  pub mode-is : f .mode ≡ mode
+  mode-is = ap (λ (k : Fixed). k .mode) (fixed-stays needle haystack s₀ calls) ∙ prepared-ready needle haystack mode ok .mode-is
+
+  -- where it is the one that does not overlap, no step is refused
+  not-refused : overlaps mode ≡ false → {A : Type 0} → overlaps (f .mode) ≡ true → A
+  not-refused e o = absurd (false≢true (sym e ∙ (rw mode-is at o)))
 
   -- all that starts, starts at 0 or after it, and below n + 1
   facing-all : Facing x h (h .size + 1) 0
@@ -77,8 +89,8 @@ module _ (needle haystack : List ℕ) (ok : Allowed needle haystack) (calls : Li
   -- ---- a two way one, in each direction
 
   module _ (pos : 0 < length needle) where
-    start : Starts needle haystack s₀
-    start = prepared-starts needle haystack ok pos
+    start : Starts needle haystack mode s₀
+    start = prepared-starts needle haystack mode ok pos
 
     reach : Walks needle haystack s₀ H
     reach = walks needle haystack ok s₀ (start .fit) (start .two-way) calls
@@ -113,14 +125,15 @@ module _ (needle haystack : List ℕ) (ok : Allowed needle haystack) (calls : Li
     at-end : s .position ≡ h .size → None (OccursFrom x h (s .position))
     at-end e j o = omega (arith, o .0, o .1 .fits)
 
-    two-way-step : NextMeans needle haystack H
+    two-way-step : overlaps mode ≡ false → NextMeans needle haystack H
     unfolding forward
-    two-way-step =
+    two-way-step apart =
         let r = forward true needle haystack f s in
         rw from-is
         (forward-cases needle haystack ok f s (reach .fit) (reach .two-way) (λ r. StepMeans x h (s .position) (s .position) (r .moving .position) (stepAnswer (r .ending) (s .position) (r .moving .position))) true
+        (not-refused apart)
         (λ _ e. (e, refl, at-end e))
-        (λ e. step-settles x h (forwardPlan (x .size) f (s .memory)) refl (s .position) (r .cursor .at) (r .stop) (holds-step forward-holds (e refl))))
+        (λ whole e. step-settles x h (forwardPlan (x .size) f (s .memory)) (rw whole) (s .position) (r .cursor .at) (r .stop) (holds-step forward-holds (e refl))))
 
     -- backward, those of the occurrences that end at `end` or before it
     abbrev below : ℕ
@@ -153,18 +166,20 @@ module _ (needle haystack : List ℕ) (ok : Allowed needle haystack) (calls : Li
     at-front : s .end ≡ 0 → None (OccursBelow x h below)
     at-front e j o = omega (arith, o .0)
 
-    two-way-step-back : NextBackMeans needle haystack H
-    two-way-step-back =
+    two-way-step-back : overlaps mode ≡ false → NextBackMeans needle haystack H
+    two-way-step-back apart =
         let inside = end-in in
         let t = backward-mirrored needle haystack ok f s (reach .fit) (reach .two-way) true in
         rw below-is
         (backward-cases needle haystack ok f s (reach .fit) (reach .two-way) (λ r. StepBackMeans x h below (s .end) (r .moving .end) (stepAnswer (r .ending) (r .moving .end) (s .end))) true
+        (not-refused apart)
         (λ _ e. (e, refl, at-front e))
-        (λ e. step-settles-back x h _ refl (s .end) _ (cursor′ .at) _ (omega arith) (t .cursors .place) (t .stops) (holds-step backward-holds (let more = e refl in omega arith))))
+        (λ whole e. step-settles-back x h _ (rw whole) (s .end) _ (cursor′ .at) _ (omega arith) (t .cursors .place) (t .stops) (holds-step backward-holds (let more = e refl in omega arith))))
 
-    two-way-means : Means needle haystack H
+    two-way-means : Means needle haystack mode H
     two-way-means =
         record {
+          fit = reach .fit;
           forward-list = rw from-is (forward-holds .lists);
           next-match-means = two-way-next;
           step-means = two-way-step;
@@ -176,8 +191,8 @@ module _ (needle haystack : List ℕ) (ok : Allowed needle haystack) (calls : Li
   -- ---- an empty one: what each call gives is the next place that is open
 
   module _ (blank : length needle ≡ 0) where
-    ready : Ready needle haystack s₀ (newRule needle (length haystack) .counts .preparing)
-    ready = prepared-ready needle haystack ok
+    ready : Ready needle haystack mode s₀ (newRule needle (length haystack) mode .counts .preparing)
+    ready = prepared-ready needle haystack mode ok
 
     given-so-far : Places needle haystack ok blank s₀ H
     given-so-far = places needle haystack ok blank s₀ (ready .fit) calls
@@ -196,15 +211,17 @@ module _ (needle haystack : List ℕ) (ok : Allowed needle haystack) (calls : Li
       empty-next =
           let within = inside .position-in in
           forward-turns needle haystack ok f s (given-so-far .fit) empty (λ r. AnswersLeast (OccursFrom x h (openFrom s)) (x .size) (matchAnswer (r .ending))) false
+          (λ o. absurd (false≢true o))
           (λ e. rw (from-given e) (least-here x h blank (s .position) within, omega arith))
           (λ e at. rw (from-later e) (none-past x h blank (s .position + 1) (omega arith)))
           (λ e more q. absurd (false≢true q))
           (λ e more q. rw (from-later e) (least-here x h blank (s .position + 1) (omega arith), omega arith))
 
-      empty-step : NextMeans needle haystack H
-      empty-step =
+      empty-step : overlaps mode ≡ false → NextMeans needle haystack H
+      empty-step apart =
           let within = inside .position-in in
           forward-turns needle haystack ok f s (given-so-far .fit) empty (λ r. StepMeans x h (openFrom s) (s .position) (r .moving .position) (stepAnswer (r .ending) (s .position) (r .moving .position))) true
+          (not-refused apart)
           (λ e. rw (from-given e) (refl, refl, omega arith, (omega arith, stands x h blank (s .position) within)))
           (λ e at. rw (from-later e) (at, refl, none-past x h blank (s .position + 1) (omega arith)))
           (λ e more q. rw (from-later e) (refl, refl, omega arith, λ j lo hi o. omega arith))
@@ -221,41 +238,56 @@ module _ (needle haystack : List ℕ) (ok : Allowed needle haystack) (calls : Li
           let within = inside .end-in in
           let again : 0 < s .end → s .end ≡ s .end - 1 + 1 = λ more. omega arith in
           backward-turns needle haystack ok f s (given-so-far .fit) empty (λ r. AnswersGreatest (OccursBelow x h (openBelow (length needle) s)) (x .size) (matchAnswer (r .ending))) false
+          (λ o. absurd (false≢true o))
           (λ e. rw (below-given e) (greatest-here x h blank (s .end) within, omega arith))
           (λ e at. rw (below-later e) (λ j o. let low = o .0 in omega arith))
           (λ e more q. absurd (false≢true q))
           (λ e more q. rw (below-later e) (subst (λ b. Greatest (OccursBelow x h b) (s .end - 1)) (sym (again more)) (greatest-here x h blank (s .end - 1) (omega arith)), omega arith))
 
-      empty-step-back : NextBackMeans needle haystack H
-      empty-step-back =
+      empty-step-back : overlaps mode ≡ false → NextBackMeans needle haystack H
+      empty-step-back apart =
           let within = inside .end-in in
           backward-turns needle haystack ok f s (given-so-far .fit) empty (λ r. StepBackMeans x h (openBelow (length needle) s) (s .end) (r .moving .end) (stepAnswer (r .ending) (r .moving .end) (s .end))) true
+          (not-refused apart)
           (λ e. rw (below-given e) (refl, refl, omega arith, (omega arith, stands x h blank (s .end) within)))
           (λ e at. rw (below-later e) (at, refl, λ j o. let low = o .0 in omega arith))
           (λ e more q. rw (below-later e) (refl, refl, omega arith, λ j lo hi o. omega arith))
           (λ e more q. absurd (false≢true (sym q)))
 
-    empty-means : Means needle haystack H
+    -- in either mode its matches may be 1 apart
+    pub gap-one : gap ≡ 1
+    gap-one = go (overlaps mode)
+      where
+        go : (b : Bool) → cond b 1 (max 1 (length needle)) ≡ 1
+        go true = refl
+        go false = omega arith
+
+    empty-means : Means needle haystack mode H
     empty-means =
         let whole : openBelow (length needle) (s₀ .moving) ≡ h .size + 1 = let e = ready .open-back-is in omega arith in
         by-empty needle haystack f s (given-so-far .fit) blank
         (λ ahead behind e.
         record {
-          forward-list = rw (ready .open-is) at (given-so-far .forward-lists);
+          fit = given-so-far .fit;
+          forward-list = rw gap-one (rw (ready .open-is) at (given-so-far .forward-lists));
           next-match-means = empty-next e;
           step-means = empty-step e;
-          backward-list = rw whole at (given-so-far .backward-lists);
+          backward-list = rw gap-one (rw whole at (given-so-far .backward-lists));
           next-match-back-means = empty-next-back e;
           step-back-means = empty-step-back e;
         })
 
-  means : Means needle haystack H
+  pub means : Means needle haystack mode H
   means = elim (ℕ-discrete (length needle) 0) [ yes blank ↦ empty-means blank | no some ↦ two-way-means (omega arith) ]
 
   -- ---- once nothing is left, nothing was left out
 
   forward-done : nextRule needle haystack (H .walk) .answer ≡ given done → None (OccursFrom x h (openFrom s))
-  forward-done e = subst (StepMeans x h (openFrom s) (s .position) _) e (means .step-means) .2
+  forward-done e = go (overlaps mode) refl
+    where
+      go : (b : Bool) → overlaps mode ≡ b → None (OccursFrom x h (openFrom s))
+      go false apart = subst (StepMeans x h (openFrom s) (s .position) _) e (means .step-means apart) .2
+      go true may = let q = fits-stays needle haystack ok (H .walk) (means .fit) .next .overlapping (rw mode-is may) in let z : _≡_ {A = ℕ} 0 1 = cc in absurd (omega arith)
 
   pub forward-none : ForwardNone needle haystack H gap
   forward-none e =
@@ -264,7 +296,11 @@ module _ (needle haystack : List ℕ) (ok : Allowed needle haystack) (calls : Li
       (Leftmost.over (⊎-elim (λ e. subst (AnswersLeast (OccursFrom x h (openFrom s)) (x .size)) e (means .next-match-means)) forward-done e)))
 
   backward-done : nextBackRule needle haystack (H .walk) .answer ≡ given done → None (OccursBelow x h (openBelow (length needle) s))
-  backward-done e = subst (StepBackMeans x h (openBelow (length needle) s) (s .end) _) e (means .step-back-means) .2
+  backward-done e = go (overlaps mode) refl
+    where
+      go : (b : Bool) → overlaps mode ≡ b → None (OccursBelow x h (openBelow (length needle) s))
+      go false apart = subst (StepBackMeans x h (openBelow (length needle) s) (s .end) _) e (means .step-back-means apart) .2
+      go true may = let q = fits-stays needle haystack ok (H .walk) (means .fit) .next-back .overlapping (rw mode-is may) in let z : _≡_ {A = ℕ} 0 1 = cc in absurd (omega arith)
 
   pub backward-none : BackwardNone needle haystack H gap
   backward-none e =
@@ -274,35 +310,35 @@ module _ (needle haystack : List ℕ) (ok : Allowed needle haystack) (calls : Li
 
 -- ---- whole searches: the first call, from a state at the two ends of the haystack
 
-module _ (needle haystack : List ℕ) (ok : Allowed needle haystack) where
+module _ (needle haystack : List ℕ) (mode : Mode) (ok : Allowed needle haystack) where
   abbrev prepared : TwoWaySearcher
-  prepared = newRule needle (length haystack) .walk
+  prepared = newRule needle (length haystack) mode .walk
 
-  pub find-least : FirstMatchLeast needle haystack
+  pub find-least : FirstMatchLeast needle haystack mode
   unfolding after
   find-least =
-      let begin = prepared-ready needle haystack ok .open-is in
+      let begin = prepared-ready needle haystack mode ok .open-is in
       least-answer-same (OccursFrom (front needle) (front haystack) (openFrom (prepared .moving))) (Occurs (front needle) (front haystack))
-      (λ j o. o .1) (λ j o. (omega arith, o)) (length needle) (nextMatchRule needle haystack prepared .answer) (means needle haystack ok [] .next-match-means)
+      (λ j o. o .1) (λ j o. (omega arith, o)) (length needle) (nextMatchRule needle haystack prepared .answer) (means needle haystack mode ok [] .next-match-means)
 
-  pub rfind-greatest : LastMatchGreatest needle haystack
+  pub rfind-greatest : LastMatchGreatest needle haystack mode
   unfolding after
   rfind-greatest =
-      let begin = prepared-ready needle haystack ok .open-back-is in
+      let begin = prepared-ready needle haystack mode ok .open-back-is in
       greatest-answer-same (OccursBelow (front needle) (front haystack) (openBelow (length needle) (prepared .moving))) (Occurs (front needle) (front haystack))
       (λ j o. o .1) (λ j o. let fits = o .fits in (omega arith, o)) (length needle) (nextMatchBackRule needle haystack prepared .answer)
-      (means needle haystack ok [] .next-match-back-means)
+      (means needle haystack mode ok [] .next-match-back-means)
 
-  pub demand-2 : (calls : List Call) → Demand2 needle haystack calls
+  pub demand-2 : (calls : List Call) → Demand2 needle haystack mode calls
   demand-2 calls =
-      let m = means needle haystack ok calls in
+      let m = means needle haystack mode ok calls in
       record {
         forward-list = m .forward-list;
-        forward-none = forward-none needle haystack ok calls;
+        forward-none = forward-none needle haystack mode ok calls;
         next-match-means = m .next-match-means;
         step-means = m .step-means;
         backward-list = m .backward-list;
-        backward-none = backward-none needle haystack ok calls;
+        backward-none = backward-none needle haystack mode ok calls;
         next-match-back-means = m .next-match-back-means;
         step-back-means = m .step-back-means;
         find-least = find-least;

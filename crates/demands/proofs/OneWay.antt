@@ -19,6 +19,7 @@ use Rattle.windows.specs.Meaning.{Guides, Gap, place}
 use Rattle.windows.specs.Shape.{Shape}
 use Rattle.windows.proofs.Windows.{Sound, Skips, sound-start}
 use Rattle.windows.proofs.Meaning.{Meant, SearchMeans, search-means, leftmost-hit, leftmost-passed, leftmost-skip, meant-at, next-least}
+use Rattle.windows.proofs.Matches.{Follows}
 use Rattle.windows.proofs.Counts.{Sets, Spent, spent-none, spent-call, memory-kinds}
 use Rattle.search.specs.Calls.{walking}
 use Rattle.demands.specs.Reached.{Made, nothing-made, and-made}
@@ -48,6 +49,10 @@ pub data Walked (has : ℕ → Bool) (v : Plan) (x h : Word) (start : Cursor) : 
 -- the memories that a walk can have, where a match clears it or sets the one that a difference sets
 abbrev pub Remembered : Plan → ℕ → Type 0
 Remembered v k = (k ≡ 0) ⊎ (k ≡ v .«period_memory»)
+
+pub follows-remembered : {v : Plan} {m : ℕ} → Follows v m → Remembered v (v .«shift_memory»)
+follows-remembered (Follows.past-needle s k) = inl k
+follows-remembered (Follows.by-period s k) = inr k
 
 pub searched-memory : (has : ℕ → Bool) {v : Plan} (x h : Word) (stepping : Bool) (s : Cursor) → Shape v (x .size) → Remembered v (v .«shift_memory») → Remembered v (s .memory)
     → Remembered v (searched has v x h stepping s .cursor .memory)

@@ -19,7 +19,6 @@ use Rattle.searcher.specs.declared.TwoWaySearcher.{TwoWaySearcher}
 use Rattle.demands.specs.Open.{openFrom, openBelow}
 use Rattle.demands.specs.Allowed.{Allowed}
 use Rattle.demands.specs.Reached.{Call, Made, History, and-made, called, after}
-use Rattle.demands.specs.Means.{gapOf}
 use Rattle.demands.proofs.Turns.{gave, step-gave, match-gave, goes-ahead, goes-back}
 
 -- an empty needle is walked by an empty state
@@ -38,18 +37,15 @@ module _ (needle haystack : List ℕ) (ok : Allowed needle haystack) (blank : le
   abbrev h : Word
   h = front haystack
 
-  abbrev gap : ℕ
-  gap = gapOf needle
-
   abbrev Free : Made → Type 0
   Free made = (made .comparisons ≡ 0) × (made .tests ≡ 0)
 
   -- what holds of a history from s₀ on: what it gave stands before the places still open, and it cost nothing
   pub record Places (H : History) : Type 0 where
     pub fit : fits needle haystack (H .walk .fixed) (H .walk .moving) ≡ true
-    pub forward-lists : (ks : List ℕ) → Leftmost x h gap (openFrom (H .walk .moving)) ks → Leftmost x h gap (openFrom (s₀ .moving)) (H .forward .matches ++ ks)
-    pub backward-lists : (ks : List ℕ) → Rightmost x h gap (openBelow (length needle) (H .walk .moving)) ks
-        → Rightmost x h gap (openBelow (length needle) (s₀ .moving)) (H .backward .matches ++ ks)
+    pub forward-lists : (ks : List ℕ) → Leftmost x h 1 (openFrom (H .walk .moving)) ks → Leftmost x h 1 (openFrom (s₀ .moving)) (H .forward .matches ++ ks)
+    pub backward-lists : (ks : List ℕ) → Rightmost x h 1 (openBelow (length needle) (H .walk .moving)) ks
+        → Rightmost x h 1 (openBelow (length needle) (s₀ .moving)) (H .backward .matches ++ ks)
     pub forward-free : Free (H .forward)
     pub backward-free : Free (H .backward)
 

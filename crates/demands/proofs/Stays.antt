@@ -1,24 +1,26 @@
--- A state that fits stays fitting, and is not refused: of both kinds of walk. And no call refuses by 3.
+-- A state that fits stays fitting, and only a step where matches may overlap is refused: of both kinds of walk. No call refuses by 3, and none changes what preparing fixed.
 -- Assumes nothing.
 use Prim.Native.Nat.{ℕ}
-use mathlib.Core.Path.{_≡_, refl, _∙_, subst}
-use mathlib.Core.Bool.{Bool, true, false, cond}
+use mathlib.Core.Path.{_≡_, refl, sym, _∙_, subst}
+use mathlib.Core.Bool.{Bool, true, false, cond, _&&_, false≢true}
 use mathlib.Core.Logic.{⊎-elim}
-use mathlib.Core.List.{List}
+use mathlib.Core.List.{List, [], _∷_}
 use native.Mathlib.Omega.{arith}
 use lib.Dec.{eqb}
 use lib.ListN.{length}
 use Rattle.limits.specs.declared.Check.{Check}
 use Rattle.limits.specs.declared.Refusal.{Refusal}
-use Rattle.limits.specs.declared.Refusal.the-variants.{StateDoesNotFit}
+use Rattle.limits.specs.declared.Refusal.the-variants.{StateDoesNotFit, StepOverlapping}
 use Rattle.limits.specs.Refusals.{numberOf}
-use Rattle.limits.specs.Checks.{lengths, andThen}
+use Rattle.limits.specs.Checks.{lengths, refuseIf, andThen}
 use Rattle.limits.specs.Said.{refused}
 use Rattle.limits.proofs.Checks.{lengths-refuse}
 use Rattle.record.specs.declared.Kind.{Kind}
 use Rattle.record.specs.declared.Kind.the-variants.{TwoWay, Empty}
+use Rattle.record.specs.declared.Mode.{Mode}
 use Rattle.record.specs.declared.Fixed.{Fixed}
 use Rattle.record.specs.declared.Moving.{Moving}
+use Rattle.record.specs.Kinds.{overlaps}
 use Rattle.record.specs.Fits.{fits, fitting}
 use Rattle.windows.specs.declared.Stop.{Stop}
 use Rattle.search.specs.declared.Ending.{Ending}
@@ -30,8 +32,9 @@ use Rattle.search.proofs.Calls.{Passed, refusal-passed, forward-refused, backwa
 use Rattle.searcher.specs.declared.TwoWaySearcher.{TwoWaySearcher}
 use Rattle.searcher.specs.Walk.{newRule, stepAnswer, matchAnswer}
 use Rattle.demands.specs.Allowed.{Allowed}
-use Rattle.demands.specs.Stays.{Stays, NeverThree}
-use Rattle.demands.proofs.Calls.{forward-goes, backward-goes, forward-cases, backward-cases}
+use Rattle.demands.specs.Reached.{Call, called, after}
+use Rattle.demands.specs.Stays.{Stays, NeverThree, FixedStays}
+use Rattle.demands.proofs.Calls.{passes, forward-goes, backward-goes, forward-cases, backward-cases}
 use Rattle.demands.proofs.Turns.{goes-ahead, goes-back, forward-turns, backward-turns}
 
 -- what a call came to is no refusal, be it a step or a next match
@@ -60,41 +63,75 @@ module _ (needle haystack : List ℕ) (ok : Allowed needle haystack) (f : Fixed)
   abbrev Left : Walked → Type 0
   Left r = (fits needle haystack f (r .moving) ≡ true) × Answers (r .ending)
 
-  forward-left : (stepping : Bool) → Left (forwardCall stepping needle haystack f s)
-  forward-left stepping = go (s .kind) refl
-    where
-      go : (kind : Kind) → s .kind ≡ kind → Left (forwardCall stepping needle haystack f s)
-      go TwoWay e =
-          forward-cases needle haystack ok f s fit e Left stepping (λ _ _. (fit, done-is))
-          (λ _. (forward-goes needle haystack ok f s fit e stepping .fit, stop-is (length needle) (forward stepping needle haystack f s .stop)))
-      go (Empty ahead behind) e = (
-        goes-ahead needle haystack ok f s fit e stepping .fits-again,
-        forward-turns needle haystack ok f s fit e (λ r. Answers (r .ending)) stepping (λ _. match-is _ _) (λ _ _. done-is) (λ _ _ _. passed-is) (λ _ _ _. match-is _ _),
-      )
+  -- of a call that is no step where matches may overlap
+  module _ (stepping : Bool) (allowed : (stepping && overlaps (f .mode)) ≡ false) where
+    refuses : {A : Type 0} → (stepping && overlaps (f .mode)) ≡ true → A
+    refuses e = absurd (false≢true (sym allowed ∙ e))
 
-  backward-left : (stepping : Bool) → Left (backwardCall stepping needle haystack f s)
-  backward-left stepping = go (s .kind) refl
-    where
-      go : (kind : Kind) → s .kind ≡ kind → Left (backwardCall stepping needle haystack f s)
-      go TwoWay e =
-          backward-cases needle haystack ok f s fit e Left stepping (λ _ _. (fit, done-is))
-          (λ _. (backward-goes needle haystack ok f s fit e stepping .fit, stop-is (length needle) (backward stepping needle haystack f s .stop)))
-      go (Empty ahead behind) e = (
-        goes-back needle haystack ok f s fit e stepping .fits-again,
-        backward-turns needle haystack ok f s fit e (λ r. Answers (r .ending)) stepping (λ _. match-is _ _) (λ _ _. done-is) (λ _ _ _. passed-is) (λ _ _ _. match-is _ _),
-      )
+    forward-left : Left (forwardCall stepping needle haystack f s)
+    forward-left = go (s .kind) refl
+      where
+        go : (kind : Kind) → s .kind ≡ kind → Left (forwardCall stepping needle haystack f s)
+        go TwoWay e =
+            forward-cases needle haystack ok f s fit e Left stepping refuses (λ _ _. (fit, done-is))
+            (λ _ _. (forward-goes needle haystack ok f s fit e stepping .fit, stop-is (length needle) (forward stepping needle haystack f s .stop)))
+        go (Empty ahead behind) e = (
+          goes-ahead needle haystack ok f s fit e stepping .fits-again,
+          forward-turns needle haystack ok f s fit e (λ r. Answers (r .ending)) stepping refuses (λ _. match-is _ _) (λ _ _. done-is) (λ _ _ _. passed-is) (λ _ _ _. match-is _ _),
+        )
 
--- no call is refused, and the state that it hands back fits
+    backward-left : Left (backwardCall stepping needle haystack f s)
+    backward-left = go (s .kind) refl
+      where
+        go : (kind : Kind) → s .kind ≡ kind → Left (backwardCall stepping needle haystack f s)
+        go TwoWay e =
+            backward-cases needle haystack ok f s fit e Left stepping refuses (λ _ _. (fit, done-is))
+            (λ _ _. (backward-goes needle haystack ok f s fit e stepping .fit, stop-is (length needle) (backward stepping needle haystack f s .stop)))
+        go (Empty ahead behind) e = (
+          goes-back needle haystack ok f s fit e stepping .fits-again,
+          backward-turns needle haystack ok f s fit e (λ r. Answers (r .ending)) stepping refuses (λ _. match-is _ _) (λ _ _. done-is) (λ _ _ _. passed-is) (λ _ _ _. match-is _ _),
+        )
+
+  -- a step where they may is refused
+  module _ (may : overlaps (f .mode) ≡ true) where
+    last-check : refusal true needle haystack f s ≡ Check.Refuse StepOverlapping
+    last-check = passes needle haystack ok f s fit true ∙ rw may
+
+    pub step-refused : forwardCall true needle haystack f s ≡ free (Ending.Refused StepOverlapping) s
+    step-refused = sym (forward-refused needle haystack f s true refl last-check refl)
+
+    pub step-back-refused : backwardCall true needle haystack f s ≡ free (Ending.Refused StepOverlapping) s
+    step-back-refused = sym (backward-refused needle haystack f s true refl last-check refl)
+
+-- no call is refused but such a step, and the state that it hands back fits
 pub fits-stays : (needle haystack : List ℕ) → Allowed needle haystack → (s : TwoWaySearcher) → fits needle haystack (s .fixed) (s .moving) ≡ true → Stays needle haystack s
 fits-stays needle haystack ok s fit =
-    let ahead : (stepping : Bool) → Left needle haystack ok (s .fixed) (s .moving) fit (forwardCall stepping needle haystack (s .fixed) (s .moving)) = forward-left needle haystack ok (s .fixed) (s .moving) fit in
-    let behind : (stepping : Bool) → Left needle haystack ok (s .fixed) (s .moving) fit (backwardCall stepping needle haystack (s .fixed) (s .moving)) = backward-left needle haystack ok (s .fixed) (s .moving) fit in
+    let ahead : (stepping : Bool) → (stepping && overlaps (s .fixed .mode)) ≡ false → Left needle haystack ok (s .fixed) (s .moving) fit (forwardCall stepping needle haystack (s .fixed) (s .moving)) =
+    forward-left needle haystack ok (s .fixed) (s .moving) fit in
+    let behind : (stepping : Bool) → (stepping && overlaps (s .fixed .mode)) ≡ false → Left needle haystack ok (s .fixed) (s .moving) fit (backwardCall stepping needle haystack (s .fixed) (s .moving)) =
+    backward-left needle haystack ok (s .fixed) (s .moving) fit in
     record {
-      next = (ahead true .0, λ number. ahead true .1 number .0 _ _);
-      next-back = (behind true .0, λ number. behind true .1 number .0 _ _);
-      next-match = (ahead false .0, λ number. ahead false .1 number .1);
-      next-match-back = (behind false .0, λ number. behind false .1 number .1);
+      next = record {
+        apart = λ e. (ahead true e .0, λ number. ahead true e .1 number .0 _ _);
+        overlapping = λ e. rw (step-refused needle haystack ok (s .fixed) (s .moving) fit e);
+      };
+      next-back = record {
+        apart = λ e. (behind true e .0, λ number. behind true e .1 number .0 _ _);
+        overlapping = λ e. rw (step-back-refused needle haystack ok (s .fixed) (s .moving) fit e);
+      };
+      next-match = (ahead false refl .0, λ number. ahead false refl .1 number .1);
+      next-match-back = (behind false refl .0, λ number. behind false refl .1 number .1);
     }
+
+-- ---- what preparing fixed
+
+pub fixed-stays : (needle haystack : List ℕ) (s : TwoWaySearcher) (calls : List Call) → FixedStays needle haystack s calls
+unfolding after called
+fixed-stays needle haystack s [] = refl
+fixed-stays needle haystack s (Call.next ∷ earlier) = fixed-stays needle haystack s earlier
+fixed-stays needle haystack s (Call.next-back ∷ earlier) = fixed-stays needle haystack s earlier
+fixed-stays needle haystack s (Call.next-match ∷ earlier) = fixed-stays needle haystack s earlier
+fixed-stays needle haystack s (Call.next-match-back ∷ earlier) = fixed-stays needle haystack s earlier
 
 -- ---- refusal 3
 
@@ -102,14 +139,16 @@ fits-stays needle haystack ok s fit =
 lengths-not-three : (n m : ℕ) {why : Refusal} → lengths n m ≡ Check.Refuse why → numberOf why ≡ 3 → ⊥
 lengths-not-three n m e three = ⊎-elim (λ one. let is = one .0 in omega arith) (λ two. let is = two .0 in omega arith) (lengths-refuse n m refl e)
 
-refusal-not-three : (needle haystack : List ℕ) (f : Fixed) (s : Moving) {why : Refusal} → refusal needle haystack f s ≡ Check.Refuse why → numberOf why ≡ 3 → ⊥
+refusal-not-three : (stepping : Bool) (needle haystack : List ℕ) (f : Fixed) (s : Moving) {why : Refusal} → refusal stepping needle haystack f s ≡ Check.Refuse why → numberOf why ≡ 3 → ⊥
 unfolding refusal fitting
-refusal-not-three needle haystack f s {why} = go (lengths (length haystack) (length needle)) (fits needle haystack f s) refl
+refusal-not-three stepping needle haystack f s {why} = go (lengths (length haystack) (length needle)) (fits needle haystack f s) (stepping && overlaps (f .mode)) refl
   where
-    go : (l : Check) (b : Bool) → lengths (length haystack) (length needle) ≡ l → andThen l (cond b Check.Pass (Check.Refuse StateDoesNotFit)) ≡ Check.Refuse why → numberOf why ≡ 3 → ⊥
-    go (Check.Refuse _) b el e three = lengths-not-three _ _ (el ∙ e) three
-    go Check.Pass true el e three = apart cc
-    go Check.Pass false el e three = let z : numberOf StateDoesNotFit ≡ 3 = cc in omega arith
+    go : (l : Check) (b o : Bool) → lengths (length haystack) (length needle) ≡ l
+        → andThen l (andThen (cond b Check.Pass (Check.Refuse StateDoesNotFit)) (refuseIf o StepOverlapping)) ≡ Check.Refuse why → numberOf why ≡ 3 → ⊥
+    go (Check.Refuse _) b o el e three = lengths-not-three _ _ (el ∙ e) three
+    go Check.Pass false o el e three = let z : numberOf StateDoesNotFit ≡ 3 = cc in omega arith
+    go Check.Pass true true el e three = let z : numberOf StepOverlapping ≡ 3 = cc in omega arith
+    go Check.Pass true false el e three = apart cc
 
 -- what a call came to is no refusal by 3
 abbrev NotByThree : Ending → Type 0
@@ -118,35 +157,37 @@ NotByThree e = ((low high : ℕ) → stepAnswer e low high ≡ refused 3 → ⊥
 by-number : (why : Refusal) → (numberOf why ≡ 3 → ⊥) → NotByThree (Ending.Refused why)
 by-number why other = ((λ low high e. let z : numberOf why ≡ 3 = cc in other z), λ e. let z : numberOf why ≡ 3 = cc in other z)
 
-module _ (needle haystack : List ℕ) (f : Fixed) (s : Moving) where
+module _ (needle haystack : List ℕ) (f : Fixed) (s : Moving) (stepping : Bool) where
   -- a call is refused by the checks, or not at all
-  not-three : (w : Walked) → (Passed needle haystack f s → Answers (w .ending))
-      → ((why : Refusal) → refusal needle haystack f s ≡ Check.Refuse why → free (Ending.Refused why) s ≡ w) → NotByThree (w .ending)
-  not-three w passed by = go (refusal needle haystack f s) refl
+  not-three : (w : Walked) → (Passed stepping needle haystack f s → Answers (w .ending))
+      → ((why : Refusal) → refusal stepping needle haystack f s ≡ Check.Refuse why → free (Ending.Refused why) s ≡ w) → NotByThree (w .ending)
+  not-three w passed by = go (refusal stepping needle haystack f s) refl
     where
-      go : (c : Check) → refusal needle haystack f s ≡ c → NotByThree (w .ending)
-      go Check.Pass e = passed (refusal-passed needle haystack f s e) 3
-      go (Check.Refuse why) e = subst (λ (r : Walked). NotByThree (r .ending)) (by why e) (by-number why (refusal-not-three needle haystack f s e))
+      go : (c : Check) → refusal stepping needle haystack f s ≡ c → NotByThree (w .ending)
+      go Check.Pass e = passed (refusal-passed needle haystack f s stepping e) 3
+      go (Check.Refuse why) e = subst (λ (r : Walked). NotByThree (r .ending)) (by why e) (by-number why (refusal-not-three stepping needle haystack f s e))
 
-  forward-three : (stepping : Bool) → NotByThree (forwardCall stepping needle haystack f s .ending)
-  forward-three stepping =
-      not-three (forwardCall stepping needle haystack f s) (λ p. forward-left needle haystack (record { within = p .within }) f s (p .fit) stepping .1)
-      (λ why e. forward-refused needle haystack f s refl e stepping refl)
+  forward-three : NotByThree (forwardCall stepping needle haystack f s .ending)
+  forward-three =
+      not-three (forwardCall stepping needle haystack f s)
+      (λ p. forward-left needle haystack (record { within = p .within }) f s (p .fit) stepping (p .no-overlapping-step) .1)
+      (λ why e. forward-refused needle haystack f s stepping refl e refl)
 
-  backward-three : (stepping : Bool) → NotByThree (backwardCall stepping needle haystack f s .ending)
-  backward-three stepping =
-      not-three (backwardCall stepping needle haystack f s) (λ p. backward-left needle haystack (record { within = p .within }) f s (p .fit) stepping .1)
-      (λ why e. backward-refused needle haystack f s refl e stepping refl)
+  backward-three : NotByThree (backwardCall stepping needle haystack f s .ending)
+  backward-three =
+      not-three (backwardCall stepping needle haystack f s)
+      (λ p. backward-left needle haystack (record { within = p .within }) f s (p .fit) stepping (p .no-overlapping-step) .1)
+      (λ why e. backward-refused needle haystack f s stepping refl e refl)
 
 -- preparing refuses by the lengths alone
-new-three : (needle : List ℕ) (n : ℕ) → newRule needle n .answer ≡ refused 3 → ⊥
+new-three : (needle : List ℕ) (n : ℕ) (mode : Mode) → newRule needle n mode .answer ≡ refused 3 → ⊥
 unfolding prepareRule
-new-three needle n = go (lengths n (length needle)) (eqb (length needle) 0) refl
+new-three needle n mode = go (lengths n (length needle)) (eqb (length needle) 0) refl
   where
-    go : (c : Check) (b : Bool) → lengths n (length needle) ≡ c → orParts c (cond b (emptyWalk n) (fiveSteps needle n)) .answer ≡ refused 3 → ⊥
+    go : (c : Check) (b : Bool) → lengths n (length needle) ≡ c → orParts c (cond b (emptyWalk n mode) (fiveSteps needle n mode)) .answer ≡ refused 3 → ⊥
     go (Check.Refuse why) b el e = let z : numberOf why ≡ 3 = cc in lengths-not-three n (length needle) el z
     go Check.Pass true el e = apart cc
-    go Check.Pass false el e = let q = prepared-ready needle n in apart cc
+    go Check.Pass false el e = let q = prepared-ready needle n mode in apart cc
 
 pub never-three : (needle haystack : List ℕ) (s : TwoWaySearcher) → NeverThree needle haystack s
 never-three needle haystack s =

@@ -1,23 +1,25 @@
--- What a call does to an empty state that fits: it is not refused and costs nothing, it turns its own direction's side, and the state that it hands back fits again;
+-- What a call does to an empty state that fits: it costs nothing, it turns its own direction's side, but for a step that is refused because matches may overlap,
+-- and the state that it hands back fits again;
 -- and what it gives: every place once, in its order. This holds of every such state, prepared or not.
 -- m is the needle's size, which is 0, and n the haystack's.
 -- Assumes nothing.
 use Prim.Native.Nat.{ℕ, _+_, _-_, _<_, _≤_}
 use mathlib.Core.Path.{_≡_, refl, sym, subst}
-use mathlib.Core.Bool.{Bool, true, false}
+use mathlib.Core.Bool.{Bool, true, false, _&&_}
 use mathlib.Core.List.{List, [], _∷_, _++_}
 use native.Mathlib.Omega.{arith}
 use lib.ListN.{length}
 use Rattle.words.specs.Word.{Word, front}
 use Rattle.words.specs.Choice.{Least, Greatest, None}
 use Rattle.words.specs.Occurs.{Occurs, OccursFrom, OccursBelow, Leftmost, Rightmost}
+use Rattle.limits.specs.declared.Refusal.the-variants.{StepOverlapping}
 use Rattle.empty.specs.declared.Turned.{Turned}
 use Rattle.empty.proofs.Laws.{by-turn}
 use Rattle.record.specs.declared.Kind.the-variants.{Empty}
 use Rattle.record.specs.declared.Fixed.{Fixed}
 use Rattle.record.specs.declared.Moving.{Moving}
 use Rattle.record.specs.Fits.{fits}
-use Rattle.record.specs.Kinds.{flagsOf}
+use Rattle.record.specs.Kinds.{flagsOf, overlaps}
 use Rattle.record.proofs.Fitting.{StateFits, KindFits, state, decides-fits}
 use Rattle.search.specs.declared.Ending.{Ending}
 use Rattle.search.specs.declared.Walked.{Walked}
@@ -26,8 +28,7 @@ use Rattle.searcher.specs.Walk.{stepAnswer, matchAnswer}
 use Rattle.demands.specs.Open.{openFrom, openBelow}
 use Rattle.demands.specs.Allowed.{Allowed}
 use Rattle.demands.specs.Reached.{stepMatches, nextMatches}
-use Rattle.demands.specs.Means.{gapOf}
-use Rattle.demands.proofs.Calls.{passes}
+use Rattle.demands.proofs.Calls.{passes, by-check}
 
 -- ---- an empty word stands everywhere
 
@@ -45,12 +46,12 @@ module _ (x h : Word) (blank : x .size ≡ 0) where
   greatest-here k inside = record { holds = (omega arith, stands k inside); none-after = λ j after o. let hi = o .0 in omega arith }
 
   -- so a list at a gap of 1 goes on with the next place
-  module _ {gap : ℕ} (one : gap ≡ 1) (k : ℕ) (inside : k ≤ h .size) {ks : List ℕ} where
-    pub leftmost-on : Leftmost x h gap (k + 1) ks → Leftmost x h gap k (k ∷ ks)
-    leftmost-on l = Leftmost.hit (least-here k inside) (subst (λ a. Leftmost x h gap a ks) (omega arith) l)
+  module _ (k : ℕ) (inside : k ≤ h .size) {ks : List ℕ} where
+    pub leftmost-on : Leftmost x h 1 (k + 1) ks → Leftmost x h 1 k (k ∷ ks)
+    leftmost-on l = Leftmost.hit (least-here k inside) l
 
-    pub rightmost-on : Rightmost x h gap k ks → Rightmost x h gap (k + 1) (k ∷ ks)
-    rightmost-on l = Rightmost.hit (greatest-here k inside) (subst (λ b. Rightmost x h gap b ks) (omega arith) l)
+    pub rightmost-on : Rightmost x h 1 k ks → Rightmost x h 1 (k + 1) (k ∷ ks)
+    rightmost-on l = Rightmost.hit (greatest-here k inside) (subst (λ b. Rightmost x h 1 b ks) (omega arith) l)
 
 -- ---- the answers
 
@@ -115,36 +116,44 @@ module _ (needle haystack : List ℕ) (ok : Allowed needle haystack) (f : Fixed)
     still : {e : Ending} → P (free e s) → P (free e (record { position = s .position; end = s .end; memory = s .memory; kind = Empty ahead behind }))
     still {e} p = subst (λ kind. P (free e (record { position = s .position; end = s .end; memory = s .memory; kind = kind }))) empty p
 
-    pub forward-turns : (ahead ≡ true → P (free (Ending.Match (s .position) (s .position)) (stood (s .position) false)))
+    -- a step that is refused
+    abbrev Overlapping : Type 0
+    Overlapping = (stepping && overlaps (f .mode)) ≡ true → P (free (Ending.Refused StepOverlapping) s)
+
+    pub forward-turns : Overlapping → (ahead ≡ true → P (free (Ending.Match (s .position) (s .position)) (stood (s .position) false)))
         → (ahead ≡ false → s .position ≡ n → P (free Ending.Done s))
         → (ahead ≡ false → s .position < n → stepping ≡ true → P (free Ending.Passed (stood (s .position + 1) true)))
         → (ahead ≡ false → s .position < n → stepping ≡ false → P (free (Ending.Match (s .position + 1) (s .position + 1)) (stood (s .position + 1) false)))
         → P (forwardCall stepping needle haystack f s)
     unfolding forwardCall
-    forward-turns given over passed next =
+    forward-turns refuses given over passed next =
         let inside = was .position-in in
         let here : n - (n - s .position) ≡ s .position = omega arith in
         let there : 0 < n - s .position → n - (n - s .position - 1) ≡ s .position + 1 = λ more. omega arith in
-        rw (passes needle haystack ok f s fit)
-        (subst (λ kind. P (forwardBy (flagsOf kind) stepping needle haystack f s)) (sym empty)
+        rw (passes needle haystack ok f s fit stepping)
+        (by-check P stepping f s refuses
+        (λ _.
+        subst (λ kind. P (forwardBy (flagsOf kind) stepping needle haystack f s)) (sym empty)
         (by-turn (λ (r : Turned). P (free (turnEnding (r .gives) (n - r .side .ahead)) (stood (n - r .side .ahead) (r .side .«is_match»)))) stepping
         (record { ahead = n - s .position; «is_match» = ahead })
         (λ e. rw here (given e))
         (λ e z. rw here (still (over e (omega arith))))
         (λ e more t. rw (there more) (passed e (omega arith) t))
-        (λ e more t. rw (there more) (next e (omega arith) t))))
+        (λ e more t. rw (there more) (next e (omega arith) t)))))
 
-    pub backward-turns : (behind ≡ true → P (free (Ending.Match (s .end) (s .end)) (stood-back (s .end) false)))
+    pub backward-turns : Overlapping → (behind ≡ true → P (free (Ending.Match (s .end) (s .end)) (stood-back (s .end) false)))
         → (behind ≡ false → s .end ≡ 0 → P (free Ending.Done s))
         → (behind ≡ false → 0 < s .end → stepping ≡ true → P (free Ending.Passed (stood-back (s .end - 1) true)))
         → (behind ≡ false → 0 < s .end → stepping ≡ false → P (free (Ending.Match (s .end - 1) (s .end - 1)) (stood-back (s .end - 1) false)))
         → P (backwardCall stepping needle haystack f s)
     unfolding backwardCall
-    backward-turns given over passed next =
-        rw (passes needle haystack ok f s fit)
-        (subst (λ kind. P (backwardBy (flagsOf kind) stepping needle haystack f s)) (sym empty)
+    backward-turns refuses given over passed next =
+        rw (passes needle haystack ok f s fit stepping)
+        (by-check P stepping f s refuses
+        (λ _.
+        subst (λ kind. P (backwardBy (flagsOf kind) stepping needle haystack f s)) (sym empty)
         (by-turn (λ (r : Turned). P (free (turnEnding (r .gives) (r .side .ahead)) (stood-back (r .side .ahead) (r .side .«is_match»)))) stepping
-        (record { ahead = s .end; «is_match» = behind }) given (λ e z. still (over e z)) passed next))
+        (record { ahead = s .end; «is_match» = behind }) given (λ e z. still (over e z)) passed next)))
 
   -- the places that are open before the call, by the flags
   pub open-given : ahead ≡ true → openFrom s ≡ s .position
@@ -167,39 +176,33 @@ module _ (needle haystack : List ℕ) (ok : Allowed needle haystack) (f : Fixed)
   abbrev h : Word
   h = front haystack
 
-  abbrev gap : ℕ
-  gap = gapOf needle
-
-  one : gap ≡ 1
-  one = let z = blank in omega arith
-
   pub record Ahead (r : Walked) : Type 0 where
     pub fits-again : fits needle haystack f (r .moving) ≡ true
     pub costs : r .counts ≡ walking 0 0
     pub other : openBelow m (r .moving) ≡ openBelow m s
-    pub lists : (ks : List ℕ) → Leftmost x h gap (openFrom (r .moving)) ks → Leftmost x h gap (openFrom s) (gave (r .ending) ++ ks)
+    pub lists : (ks : List ℕ) → Leftmost x h 1 (openFrom (r .moving)) ks → Leftmost x h 1 (openFrom s) (gave (r .ending) ++ ks)
 
   pub goes-ahead : (stepping : Bool) → Ahead (forwardCall stepping needle haystack f s)
   goes-ahead stepping =
-      forward-turns Ahead stepping
-      (λ e. record { fits-again = stood-fits _ _ (was .position-in); costs = refl; other = rw empty; lists = λ ks l. rw (open-given e) (leftmost-on x h blank one (s .position) (was .position-in) l) })
+      forward-turns Ahead stepping (λ _. record { fits-again = fit; costs = refl; other = refl; lists = λ ks l. l })
+      (λ e. record { fits-again = stood-fits _ _ (was .position-in); costs = refl; other = rw empty; lists = λ ks l. rw (open-given e) (leftmost-on x h blank (s .position) (was .position-in) l) })
       (λ e at. record { fits-again = fit; costs = refl; other = refl; lists = λ ks l. l })
       (λ e more t. record { fits-again = stood-fits _ _ (omega arith); costs = refl; other = rw empty; lists = λ ks l. rw (open-later e) l })
-      (λ e more t. record { fits-again = stood-fits _ _ (omega arith); costs = refl; other = rw empty; lists = λ ks l. rw (open-later e) (leftmost-on x h blank one (s .position + 1) (omega arith) l) })
+      (λ e more t. record { fits-again = stood-fits _ _ (omega arith); costs = refl; other = rw empty; lists = λ ks l. rw (open-later e) (leftmost-on x h blank (s .position + 1) (omega arith) l) })
 
   pub record Behind (r : Walked) : Type 0 where
     pub fits-again : fits needle haystack f (r .moving) ≡ true
     pub costs : r .counts ≡ walking 0 0
     pub other : openFrom (r .moving) ≡ openFrom s
-    pub lists : (ks : List ℕ) → Rightmost x h gap (openBelow m (r .moving)) ks → Rightmost x h gap (openBelow m s) (gave (r .ending) ++ ks)
+    pub lists : (ks : List ℕ) → Rightmost x h 1 (openBelow m (r .moving)) ks → Rightmost x h 1 (openBelow m s) (gave (r .ending) ++ ks)
 
   pub goes-back : (stepping : Bool) → Behind (backwardCall stepping needle haystack f s)
   goes-back stepping =
       let inside = was .end-in in
       let whole : (k : ℕ) → k - m ≡ k = λ k. let z = blank in omega arith in
       let again : 0 < s .end → s .end - 1 + 1 ≡ s .end = λ more. omega arith in
-      backward-turns Behind stepping
-      (λ e. record { fits-again = stood-back-fits _ _ inside; costs = refl; other = rw empty; lists = λ ks l. rw (open-back-given e) (rightmost-on x h blank one (s .end) inside (rw whole at l)) })
+      backward-turns Behind stepping (λ _. record { fits-again = fit; costs = refl; other = refl; lists = λ ks l. l })
+      (λ e. record { fits-again = stood-back-fits _ _ inside; costs = refl; other = rw empty; lists = λ ks l. rw (open-back-given e) (rightmost-on x h blank (s .end) inside (rw whole at l)) })
       (λ e at. record { fits-again = fit; costs = refl; other = refl; lists = λ ks l. l })
       (λ e more t. record { fits-again = stood-back-fits _ _ (omega arith); costs = refl; other = rw empty; lists = λ ks l. rw (open-back-later e) (rw (whole, again more) at l) })
-      (λ e more t. record { fits-again = stood-back-fits _ _ (omega arith); costs = refl; other = rw empty; lists = λ ks l. rw (open-back-later e) (rw (again more) at (rightmost-on x h blank one (s .end - 1) (omega arith) (rw whole at l))) })
+      (λ e more t. record { fits-again = stood-back-fits _ _ (omega arith); costs = refl; other = rw empty; lists = λ ks l. rw (open-back-later e) (rw (again more) at (rightmost-on x h blank (s .end - 1) (omega arith) (rw whole at l))) })

@@ -118,12 +118,12 @@ module _ (needle haystack : List ℕ) (ok : Allowed needle haystack) (s : TwoWay
   next-went : let r = nextRule needle haystack s in WentForward (r .walk .moving) (stepMatches (r .answer)) (r .counts)
   next-went =
       forward-cases needle haystack ok (s .fixed) k fit two-way (λ r. WentForward (r .moving) (stepMatches (stepAnswer (r .ending) (k .position) (r .moving .position))) (r .counts)) true
-      (λ _ e. Went.stayed) (λ e. rw step-hits (Went.went true))
+      (λ _. Went.stayed) (λ _ e. Went.stayed) (λ _ e. rw step-hits (Went.went true))
 
   next-back-went : let r = nextBackRule needle haystack s in WentBackward (r .walk .moving) (stepMatches (r .answer)) (r .counts)
   next-back-went =
       backward-cases needle haystack ok (s .fixed) k fit two-way (λ r. WentBackward (r .moving) (stepMatches (stepAnswer (r .ending) (r .moving .end) (k .end))) (r .counts)) true
-      (λ _ e. Went.stayed) (λ e. rw step-hits (Went.went true))
+      (λ _. Went.stayed) (λ _ e. Went.stayed) (λ _ e. rw step-hits (Went.went true))
 
   next-match-went : let r = nextMatchRule needle haystack s in WentForward (r .walk .moving) (nextMatches (r .answer)) (r .counts)
   next-match-went = rw (next-match-walked needle haystack ok (s .fixed) k fit two-way, match-hits) (Went.went false)

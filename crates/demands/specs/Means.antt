@@ -5,11 +5,14 @@ use mathlib.Core.Path.{_≡_}
 use mathlib.Core.Logic.{_⊎_}
 use mathlib.Core.List.{List, [], _∷_, _++_}
 use mathlib.Core.Option.{Option, none, some}
+use mathlib.Core.Bool.{false, cond}
 use lib.ListN.{length}
 use Rattle.words.specs.Word.{Word, front}
 use Rattle.words.specs.Choice.{Least, Greatest, None}
 use Rattle.words.specs.Occurs.{Occurs, OccursFrom, OccursBelow, Leftmost, Rightmost}
 use Rattle.limits.specs.Said.{Said, refused, given}
+use Rattle.record.specs.declared.Mode.{Mode}
+use Rattle.record.specs.Kinds.{overlaps}
 use Rattle.searcher.specs.Walk.{StepTerm, match, reject, done, newRule, nextRule, nextBackRule, nextMatchRule, nextMatchBackRule}
 use Rattle.demands.specs.Open.{openFrom, openBelow}
 use Rattle.demands.specs.Reached.{Call, History, reached}
@@ -48,10 +51,10 @@ StepBackMeans x h below before after (refused number) = ⊥
 
 -- ---- a history of calls
 
--- the matches that a walk lists start at least so far apart: by the needle's size, so that they do not overlap; those of an empty needle by 1,
--- so that each place is listed once
-abbrev pub gapOf : List ℕ → ℕ
-gapOf needle = max 1 (length needle)
+-- The matches that a walk lists start at least so far apart: by the needle's size, so that they do not overlap; those of an empty needle by 1,
+-- so that each place is listed once. Where they may overlap, by 1 as well: what that comes to is said without a gap in Overlapping.antt.
+abbrev pub gapOf : Mode → List ℕ → ℕ
+gapOf mode needle = cond (overlaps mode) 1 (max 1 (length needle))
 
 module _ (needle haystack : List ℕ) (H : History) where
   abbrev x : Word
@@ -108,27 +111,28 @@ module _ (needle haystack : List ℕ) (H : History) where
 -- ---- whole searches: the first next match from preparing on
 
 -- find gives the least position, and nothing exactly if there is none
-abbrev pub FirstMatchLeast : List ℕ → List ℕ → Type 0
-FirstMatchLeast needle haystack =
-    AnswersLeast (Occurs (front needle) (front haystack)) (length needle) (nextMatchRule needle haystack (newRule needle (length haystack) .walk) .answer)
+abbrev pub FirstMatchLeast : List ℕ → List ℕ → Mode → Type 0
+FirstMatchLeast needle haystack mode =
+    AnswersLeast (Occurs (front needle) (front haystack)) (length needle) (nextMatchRule needle haystack (newRule needle (length haystack) mode .walk) .answer)
 
 -- rfind the greatest
-abbrev pub LastMatchGreatest : List ℕ → List ℕ → Type 0
-LastMatchGreatest needle haystack =
-    AnswersGreatest (Occurs (front needle) (front haystack)) (length needle) (nextMatchBackRule needle haystack (newRule needle (length haystack) .walk) .answer)
+abbrev pub LastMatchGreatest : List ℕ → List ℕ → Mode → Type 0
+LastMatchGreatest needle haystack mode =
+    AnswersGreatest (Occurs (front needle) (front haystack)) (length needle) (nextMatchBackRule needle haystack (newRule needle (length haystack) mode .walk) .answer)
 
 -- all of it, after any calls from preparing on: "promised for states reached from preparation with the same bytes"
-pub record Demand2 (needle haystack : List ℕ) (calls : List Call) : Type 0 where
-  pub forward-list : ForwardList needle haystack (reached needle haystack calls) (gapOf needle)
-  pub forward-none : ForwardNone needle haystack (reached needle haystack calls) (gapOf needle)
-  pub next-match-means : NextMatchMeans needle haystack (reached needle haystack calls)
-  pub step-means : NextMeans needle haystack (reached needle haystack calls)
-  pub backward-list : BackwardList needle haystack (reached needle haystack calls) (gapOf needle)
-  pub backward-none : BackwardNone needle haystack (reached needle haystack calls) (gapOf needle)
-  pub next-match-back-means : NextMatchBackMeans needle haystack (reached needle haystack calls)
-  pub step-back-means : NextBackMeans needle haystack (reached needle haystack calls)
-  pub find-least : FirstMatchLeast needle haystack
-  pub rfind-greatest : LastMatchGreatest needle haystack
+pub record Demand2 (needle haystack : List ℕ) (mode : Mode) (calls : List Call) : Type 0 where
+  pub forward-list : ForwardList needle haystack (reached needle haystack mode calls) (gapOf mode needle)
+  pub forward-none : ForwardNone needle haystack (reached needle haystack mode calls) (gapOf mode needle)
+  pub next-match-means : NextMatchMeans needle haystack (reached needle haystack mode calls)
+  -- a step is answered where matches may not overlap
+  pub step-means : overlaps mode ≡ false → NextMeans needle haystack (reached needle haystack mode calls)
+  pub backward-list : BackwardList needle haystack (reached needle haystack mode calls) (gapOf mode needle)
+  pub backward-none : BackwardNone needle haystack (reached needle haystack mode calls) (gapOf mode needle)
+  pub next-match-back-means : NextMatchBackMeans needle haystack (reached needle haystack mode calls)
+  pub step-back-means : overlaps mode ≡ false → NextBackMeans needle haystack (reached needle haystack mode calls)
+  pub find-least : FirstMatchLeast needle haystack mode
+  pub rfind-greatest : LastMatchGreatest needle haystack mode
 
 -- ---- an empty needle, which stands at every place from 0 to n
 
@@ -142,7 +146,8 @@ falling zero = []
 falling (suc b) = b ∷ falling b
 
 -- The forward matches are 0, 1, 2 .. and the backward ones n, n-1 .., up to the places still open, and with these they are all.
-pub record EveryPlace (needle haystack : List ℕ) (calls : List Call) : Type 0 where
-  pub forward : let a = openFrom (reached needle haystack calls .walk .moving) in
-      reached needle haystack calls .forward .matches ++ rising (length haystack + 1 - a) a ≡ rising (length haystack + 1) 0
-  pub backward : reached needle haystack calls .backward .matches ++ falling (openBelow (length needle) (reached needle haystack calls .walk .moving)) ≡ falling (length haystack + 1)
+-- "An empty needle gives the same list in both modes." (02 [3])
+pub record EveryPlace (needle haystack : List ℕ) (mode : Mode) (calls : List Call) : Type 0 where
+  pub forward : let a = openFrom (reached needle haystack mode calls .walk .moving) in
+      reached needle haystack mode calls .forward .matches ++ rising (length haystack + 1 - a) a ≡ rising (length haystack + 1) 0
+  pub backward : reached needle haystack mode calls .backward .matches ++ falling (openBelow (length needle) (reached needle haystack mode calls .walk .moving)) ≡ falling (length haystack + 1)

@@ -9,6 +9,7 @@ use Rattle.limits.specs.Said.{Said, refused, given}
 use Rattle.searcher.specs.Walk.{StepTerm, match, reject, done, newRule, nextRule, nextBackRule, nextMatchRule, nextMatchBackRule}
 use Rattle.searcher.specs.declared.TwoWaySearcher.{TwoWaySearcher}
 use Rattle.record.specs.declared.Counts.{Counts}
+use Rattle.record.specs.declared.Mode.{Mode}
 
 -- the four calls
 pub data Call : Type 0 where
@@ -68,6 +69,6 @@ module _ (needle haystack : List ℕ) where
   after start [] = record { walk = start; forward = nothing-made; backward = nothing-made }
   after start (call ∷ earlier) = called call (after start earlier)
 
-  -- "states reached from preparation with the same bytes"
-  abbrev pub reached : List Call → History
-  reached calls = after (newRule needle (length haystack) .walk) calls
+  -- "states reached from preparation with the same bytes", in a mode
+  abbrev pub reached : Mode → List Call → History
+  reached mode calls = after (newRule needle (length haystack) mode .walk) calls

@@ -14,18 +14,19 @@ use borrow.Author.Tests.{lt-ltb, le-ltb, le-leb, lt-leb, eq-eqb, ne-eqb}
 use Rattle.lines.specs.Reading.{skipped}
 use Rattle.lines.specs.declared.Cursor.{Cursor}
 use Rattle.lines.specs.declared.Cursor.the-variants.{At, Lost}
-use Rattle.fields.specs.Fields.{flagAt, digitOf, takes, numbered, numberFrom, numberAt, setFrom, setAt, hasByte, byteAt, bytesFrom, wordBytes, wordAt, ReadsWord}
+use Rattle.fields.specs.Fields.{eitherAt, digitOf, takes, numbered, numberFrom, numberAt, setFrom, setAt, hasByte, byteAt, bytesFrom, wordBytes, wordAt, ReadsWord}
 use Rattle.fields.specs.declared.Number.{Number}
 use Rattle.fields.specs.declared.Set.{Set}
 
-module _ (s : List ℕ) (c zero : Cursor) (first : zero ≡ skipped s c 48) where
-  pub flag-zero : (k : ℕ) → zero ≡ At k → record { set = false; next = zero } ≡ flagAt s c
-  unfolding flagAt
-  flag-zero k e = rw (← first, e)
+-- a choice of two bytes, where the first stands at the cursor, and where it does not
+module _ (s : List ℕ) (c unset : Cursor) (a b : ℕ) (first : unset ≡ skipped s c a) where
+  pub either-first : (k : ℕ) → unset ≡ At k → record { set = false; next = unset } ≡ eitherAt s c a b
+  unfolding eitherAt
+  either-first k e = rw (← first, e)
 
-  pub flag-one : (one : Cursor) → zero ≡ Lost → one ≡ skipped s c 49 → record { set = true; next = one } ≡ flagAt s c
-  unfolding flagAt
-  flag-one one e second = rw (← first, e, second)
+  pub either-second : (behind : Cursor) → unset ≡ Lost → behind ≡ skipped s c b → record { set = true; next = behind } ≡ eitherAt s c a b
+  unfolding eitherAt
+  either-second behind e second = rw (← first, e, second)
 
 -- the value of a digit, and of a byte that is none
 module _ (x : ℕ) where

@@ -15,14 +15,18 @@ use Rattle.fields.specs.declared.Number.{Number}
 use Rattle.fields.specs.declared.Set.{Set}
 use Rattle.fields.specs.declared.Word.{Word}
 
--- the flag that is read: it is not set where there is a cursor behind a 0; else it is set, with the cursor behind a 1
+-- the flag that is read of two bytes: it is not set where there is a cursor behind the first; else it is set, with the cursor behind the second
 abbrev pub flagOf : Cursor → Cursor → Flag
-flagOf (At k) one = record { set = false; next = At k }
-flagOf Lost one = record { set = true; next = one }
+flagOf (At k) behind = record { set = false; next = At k }
+flagOf Lost behind = record { set = true; next = behind }
+
+-- the choice of two bytes at the cursor
+unfoldable pub eitherAt : List ℕ → Cursor → ℕ → ℕ → Flag
+eitherAt s c first second = flagOf (skipped s c first) (skipped s c second)
 
 -- the flag at the cursor: 0 or 1, which are 48 and 49 in the line
-unfoldable pub flagAt : List ℕ → Cursor → Flag
-flagAt s c = flagOf (skipped s c 48) (skipped s c 49)
+abbrev pub flagAt : List ℕ → Cursor → Flag
+flagAt s c = eitherAt s c 48 49
 
 -- the value of a hex digit, 0 to 9 (48 to 57) or a to f (97 to 102); 16 for a byte that is none
 unfoldable pub digitOf : ℕ → ℕ

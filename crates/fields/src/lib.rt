@@ -1,12 +1,13 @@
-// Reading the fields of a case line: a flag, a number behind its mark, a set, a word. A reader takes what it can and stops. What stands
-// behind it, a space, a colon or the end, is the next one's to ask: there a field is refused that is too long, or that breaks off.
+// Reading the fields of a case line: a choice of two letters, a number behind its mark, a set, a word. A reader takes what it can and
+// stops. What stands behind it, a space, a colon or the end, is the next one's to ask: there a field is refused that is too long, or that
+// breaks off.
 use lines::Cursor;
 ghost use mathlib.Core.Path.{_≡_};
 ghost use Prim.Native.Nat.{_+_, _≤_};
 ghost use mathlib.Core.Bool.{cond};
 ghost use lib.ListN.{length};
 ghost use Rattle.lines.specs.Reading.{skipped};
-ghost use Rattle.fields.specs.Fields.{flagAt, digitOf, numberAt, setAt, hasByte, byteAt, ReadsWord};
+ghost use Rattle.fields.specs.Fields.{eitherAt, flagAt, digitOf, numberAt, setAt, hasByte, byteAt, ReadsWord};
 
 // What a reader read, and where the next one starts. Where that is nowhere, nothing was read.
 pub struct Number {
@@ -50,21 +51,28 @@ fn digit(b: u8) -> u8
     }
 }
 
-// Reads the one digit 0 or 1.
-pub fn read_flag(s: &[u8], c: Cursor) -> Flag
-    ensures rule { λ r. ⌜ r ≡ flagAt (now (s .entry)) c ⌝ }
+// Reads one of two bytes: the flag is set where it is the second.
+pub fn read_either(s: &[u8], c: Cursor, first: u8, second: u8) -> Flag
+    ensures rule { λ r. ⌜ r ≡ eitherAt (now (s .entry)) c first second ⌝ }
 {
-    let zero = lines::skip(s, c, b'0');
-    if let Cursor::At(_) = zero {
+    let unset = lines::skip(s, c, first);
+    if let Cursor::At(_) = unset {
         return Flag {
             set: false,
-            next: zero,
+            next: unset,
         };
     }
     Flag {
         set: true,
-        next: lines::skip(s, c, b'1'),
+        next: lines::skip(s, c, second),
     }
+}
+
+// Reads the one digit 0 or 1.
+pub fn read_flag(s: &[u8], c: Cursor) -> Flag
+    ensures rule { λ r. ⌜ r ≡ flagAt (now (s .entry)) c ⌝ }
+{
+    read_either(s, c, b'0', b'1')
 }
 
 // Reads 1 to 20 decimal digits, as far as their value fits.

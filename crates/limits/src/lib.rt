@@ -15,6 +15,7 @@ pub enum Refusal {
     NeedleTooLong,
     EmptyNeedle,
     StateDoesNotFit,
+    StepOverlapping,
 }
 
 // The number that a refusal is given by.
@@ -26,6 +27,7 @@ pub fn number(refusal: Refusal) -> u8
         Refusal::NeedleTooLong => 2,
         Refusal::EmptyNeedle => 3,
         Refusal::StateDoesNotFit => 4,
+        Refusal::StepOverlapping => 5,
     }
 }
 

@@ -28,6 +28,7 @@ use Rattle.suffix.specs.Rounds.{rounds}
 use Rattle.suffix.proofs.Maximal.{known-found}
 use Rattle.record.specs.Fits.{fits}
 use Rattle.record.specs.declared.Kind.the-variants.{TwoWay}
+use Rattle.record.specs.declared.Mode.{Mode}
 use Rattle.prepare.specs.declared.Preparation.{Preparation}
 use Rattle.prepare.specs.Prepare.{preparationSaid, PartsTold, chosen, agreed, forwardRounds, prepareShort, prepareLong, fiveSteps, emptyWalk, refuse, orParts, prepareRule, NoState}
 use Rattle.record.specs.Kinds.{forwardCursor, backwardCursor}
@@ -105,18 +106,18 @@ module _ (needle : List ℕ) where
         }
 
   -- what is shown of both kinds holds of every prepared state
-  pub by-kind : (n : ℕ) (P : PartsTold → Type 0) → 0 < length needle
-      → (IsLong (front needle) c → P (prepareLong needle n c (forwardRounds needle + pairs)))
-      → (IsShort (front needle) c p (reverseStart needle p) → P (prepareShort needle n c p (forwardRounds needle + pairs)))
-      → P (fiveSteps needle n)
+  pub by-kind : (n : ℕ) (mode : Mode) (P : PartsTold → Type 0) → 0 < length needle
+      → (IsLong (front needle) c → P (prepareLong needle n mode c (forwardRounds needle + pairs)))
+      → (IsShort (front needle) c p (reverseStart needle p) → P (prepareShort needle n mode c p (forwardRounds needle + pairs)))
+      → P (fiveSteps needle n mode)
   unfolding fiveSteps
-  by-kind n P pos long short = go (ltb (agreed needle c p) c) refl
+  by-kind n mode P pos long short = go (ltb (agreed needle c p) c) refl
     where
       go : (b : Bool) → ltb (agreed needle c p) c ≡ b
           → P
           (cond b
-          (prepareLong needle n c (forwardRounds needle + pairs))
-          (prepareShort needle n c p (forwardRounds needle + pairs)))
+          (prepareLong needle n mode c (forwardRounds needle + pairs))
+          (prepareShort needle n mode c p (forwardRounds needle + pairs)))
       go true e = long (is-long pos (ltb-true _ _ e))
       go false e = short (is-short pos (ltb-false _ _ e))
 
@@ -124,21 +125,21 @@ module _ (needle : List ℕ) where
 
 module _ (needle : List ℕ) (pos : 0 < length needle) where
   -- 5. "`position` 0, `end` n", and 3. "memories are 0 and m"
-  pub prepared-start : (n : ℕ) → forwardCursor (fiveSteps needle n .moving) ≡ record { at = 0; memory = 0 }
+  pub prepared-start : (n : ℕ) (mode : Mode) → forwardCursor (fiveSteps needle n mode .moving) ≡ record { at = 0; memory = 0 }
   unfolding prepareShort prepareLong
-  prepared-start n = by-kind needle n (λ r. forwardCursor (r .moving) ≡ record { at = 0; memory = 0 }) pos (λ k. refl) (λ k. refl)
+  prepared-start n mode = by-kind needle n mode (λ r. forwardCursor (r .moving) ≡ record { at = 0; memory = 0 }) pos (λ k. refl) (λ k. refl)
 
-  pub prepared-start-back : (n : ℕ) → backwardCursor (length needle) (fiveSteps needle n .moving) ≡ record { at = n; memory = length needle }
+  pub prepared-start-back : (n : ℕ) (mode : Mode) → backwardCursor (length needle) (fiveSteps needle n mode .moving) ≡ record { at = n; memory = length needle }
   unfolding prepareShort prepareLong
-  prepared-start-back n =
-      by-kind needle n (λ r. backwardCursor (length needle) (r .moving) ≡ record { at = n; memory = length needle }) pos (λ k. refl) (λ k. refl)
+  prepared-start-back n mode =
+      by-kind needle n mode (λ r. backwardCursor (length needle) (r .moving) ≡ record { at = n; memory = length needle }) pos (λ k. refl) (λ k. refl)
 
   -- Every prepared state fits: a critical split is below the smallest period, in both directions.
-  pub prepared-fits : (haystack : List ℕ) → let r = fiveSteps needle (length haystack) in fits needle haystack (r .fixed) (r .moving) ≡ true
+  pub prepared-fits : (haystack : List ℕ) (mode : Mode) → let r = fiveSteps needle (length haystack) mode in fits needle haystack (r .fixed) (r .moving) ≡ true
   unfolding prepareShort prepareLong
-  prepared-fits haystack =
-      decides-fits needle haystack (fiveSteps needle (length haystack) .fixed) (fiveSteps needle (length haystack) .moving) .complete
-      (by-kind needle (length haystack) (λ r. StateFits needle haystack (r .fixed) (r .moving)) pos
+  prepared-fits haystack mode =
+      decides-fits needle haystack (fiveSteps needle (length haystack) mode .fixed) (fiveSteps needle (length haystack) mode .moving) .complete
+      (by-kind needle (length haystack) mode (λ r. StateFits needle haystack (r .fixed) (r .moving)) pos
       (λ k. omega arith)
       (λ k.
       let ahead = split-below (k .later) (k .smallest-is) in
@@ -159,18 +160,23 @@ module _ (needle : List ℕ) (pos : 0 < length needle) where
         };
       }))
 
-  -- and is a two way one
-  pub prepared-two-way : (n : ℕ) → fiveSteps needle n .moving .kind ≡ TwoWay
+  -- It has the mode that was asked for,
+  pub prepared-mode : (n : ℕ) (mode : Mode) → fiveSteps needle n mode .fixed .mode ≡ mode
   unfolding prepareShort prepareLong
-  prepared-two-way n = by-kind needle n (λ r. r .moving .kind ≡ TwoWay) pos (λ k. refl) (λ k. refl)
+  prepared-mode n mode = by-kind needle n mode (λ r. r .fixed .mode ≡ mode) pos (λ k. refl) (λ k. refl)
+
+  -- and is a two way one
+  pub prepared-two-way : (n : ℕ) (mode : Mode) → fiveSteps needle n mode .moving .kind ≡ TwoWay
+  unfolding prepareShort prepareLong
+  prepared-two-way n mode = by-kind needle n mode (λ r. r .moving .kind ≡ TwoWay) pos (λ k. refl) (λ k. refl)
 
   -- Four passes of at most 2m rounds each, and at most c pairs, which is below m.
-  pub preparing-few : (n : ℕ) → fiveSteps needle n .counts .preparing ≤ 9 * length needle
+  pub preparing-few : (n : ℕ) (mode : Mode) → fiveSteps needle n mode .counts .preparing ≤ 9 * length needle
   unfolding prepareShort prepareLong
-  preparing-few n =
+  preparing-few n mode =
       let a = forward-few needle in
       let b = reverse-few needle (p needle) in
-      by-kind needle n (λ r. r .counts .preparing ≤ 9 * length needle) pos
+      by-kind needle n mode (λ r. r .counts .preparing ≤ 9 * length needle) pos
       (λ k. omega arith)
       (λ k. omega (arith, chosen-fits needle pos))
 
@@ -187,21 +193,21 @@ refuse-fits-nothing why needle haystack = go _ refl
         absurd (omega arith)
 
 -- what the five steps give is not refused
-pub prepared-ready : (needle : List ℕ) (n : ℕ) → fiveSteps needle n .answer ≡ given tt
+pub prepared-ready : (needle : List ℕ) (n : ℕ) (mode : Mode) → fiveSteps needle n mode .answer ≡ given tt
 unfolding fiveSteps prepareShort prepareLong
-prepared-ready needle n = go (ltb (agreed needle (chosen needle .start) (chosen needle .period)) (chosen needle .start)) _ _ refl refl
+prepared-ready needle n mode = go (ltb (agreed needle (chosen needle .start) (chosen needle .period)) (chosen needle .start)) _ _ refl refl
   where
     go : (b : Bool) (long short : PartsTold) → long .answer ≡ given tt → short .answer ≡ given tt → cond b long short .answer ≡ given tt
     go true long short l s = l
     go false long short l s = s
 
-pub refused-fits-nothing : (needle : List ℕ) (n : ℕ) → NoState (prepareRule needle n)
+pub refused-fits-nothing : (needle : List ℕ) (n : ℕ) (mode : Mode) → NoState (prepareRule needle n mode)
 unfolding prepareRule
-refused-fits-nothing needle n = go (lengths n (length needle)) (eqb (length needle) 0)
+refused-fits-nothing needle n mode = go (lengths n (length needle)) (eqb (length needle) 0)
   where
-    go : (c : Check) (b : Bool) → NoState (orParts c (cond b (emptyWalk n) (fiveSteps needle n)))
+    go : (c : Check) (b : Bool) → NoState (orParts c (cond b (emptyWalk n mode) (fiveSteps needle n mode)))
     go Check.Pass true number e = let z : _≡_ {A = ℕ} 0 1 = cc in absurd (omega arith)
-    go Check.Pass false number e = let q = prepared-ready needle n in let z : _≡_ {A = ℕ} 0 1 = cc in absurd (omega arith)
+    go Check.Pass false number e = let q = prepared-ready needle n mode in let z : _≡_ {A = ℕ} 0 1 = cc in absurd (omega arith)
     go (Check.Refuse why) b number e = refuse-fits-nothing why
 
 -- ---- what preparing answers says loses nothing

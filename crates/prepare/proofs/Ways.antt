@@ -33,6 +33,7 @@ use Rattle.suffix.specs.declared.ReverseAnswer.{ReverseAnswer}
 use Rattle.suffix.proofs.Maximal.{plain-found, known-found}
 use Rattle.record.specs.declared.Memory.the-variants.{Long, Short}
 use Rattle.record.specs.declared.Kind.the-variants.{TwoWay}
+use Rattle.record.specs.declared.Mode.{Mode}
 use Rattle.prepare.specs.Prepare.{PartsTold, toReverse, chosen, choice, forwardRounds, reverseRounds, agreed, prepareShort, prepareLong, ready, fiveSteps, emptyWalk, refuse, prepareRule, NoState}
 use Rattle.prepare.proofs.Chosen.{forward-few, reverse-few, chosen-short}
 use Rattle.prepare.proofs.Ready.{refused-fits-nothing}
@@ -110,11 +111,12 @@ module _ (needle : List ℕ) (p : ℕ) {lower higher : ReverseSuffix} (period : 
   pub counted-fit : (counted : ℕ) → counted ≤ 5 * length needle → Fits w64 (counted + (lower .rounds + higher .rounds))
   counted-fit counted h = record { fits = omega (arith, reverse-both-few, needle-room) }
 
-  pub short-is : (n c before : ℕ) {later set : ℕ} {r : PartsTold}
+  pub short-is : (n : ℕ) (mode : Mode) (c before : ℕ) {later set : ℕ} {r : PartsTold}
       → r ≡ ready
       (record {
         «needle_len» = length needle;
         «haystack_len» = n;
+        mode = mode;
         «crit_pos» = c;
         «crit_pos_back» = length needle - later;
         period = p;
@@ -124,17 +126,18 @@ module _ (needle : List ℕ) (p : ℕ) {lower higher : ReverseSuffix} (period : 
       TwoWay
       (before + (lower .rounds + higher .rounds))
       → later ≡ max (lower .start) (higher .start) → set ≡ fingerprint (take (p - 0) (drop 0 needle))
-      → r ≡ prepareShort needle n c p before
+      → r ≡ prepareShort needle n mode c p before
   unfolding prepareShort reverseRounds
-  short-is n c before e l f = e ∙ rw (l, f, sub-zero, a, b)
+  short-is n mode c before e l f = e ∙ rw (l, f, sub-zero, a, b)
 
 -- ---- step 4
 
-pub long-is : (needle : List ℕ) (n c before : ℕ) {longer set : ℕ} {r : PartsTold}
+pub long-is : (needle : List ℕ) (n : ℕ) (mode : Mode) (c before : ℕ) {longer set : ℕ} {r : PartsTold}
     → r ≡ ready
     (record {
       «needle_len» = length needle;
       «haystack_len» = n;
+      mode = mode;
       «crit_pos» = c;
       «crit_pos_back» = c;
       period = longer + 1;
@@ -143,9 +146,9 @@ pub long-is : (needle : List ℕ) (n c before : ℕ) {longer set : ℕ} {r : Par
     Long
     TwoWay
     before
-    → longer ≡ max c (length needle - c) → set ≡ fingerprint needle → r ≡ prepareLong needle n c before
+    → longer ≡ max c (length needle - c) → set ≡ fingerprint needle → r ≡ prepareLong needle n mode c before
 unfolding prepareLong
-long-is needle n c before e l f = e ∙ rw (l, f)
+long-is needle n mode c before e l f = e ∙ rw (l, f)
 
 -- ---- the steps together
 
@@ -158,18 +161,18 @@ module _ (needle : List ℕ) {split : Suffix} {k : ℕ} (pos : 0 < length needle
   pub whole-period : split .start ≤ k → Period (front needle) (split .period)
   whole-period h = rw e (chosen-short needle pos (rw (e, k-is) at h) .holds)
 
-  pub steps-long : (n : ℕ) {r : PartsTold} → r ≡ prepareLong needle n (split .start) (split .rounds + (k + 1)) → k < split .start → r ≡ fiveSteps needle n
+  pub steps-long : (n : ℕ) (mode : Mode) {r : PartsTold} → r ≡ prepareLong needle n mode (split .start) (split .rounds + (k + 1)) → k < split .start → r ≡ fiveSteps needle n mode
   unfolding fiveSteps
-  steps-long n a h =
+  steps-long n mode a h =
       let j = agreed needle (chosen needle .start) (chosen needle .period) in
       let l : j < chosen needle .start = rw (e, k-is) at h in
       let pairs : min (j + 1) (chosen needle .start) ≡ j + 1 = omega arith in
       a ∙ rw (e, k-is, lt-ltb _ _ l, pairs)
 
-  pub steps-short : (n : ℕ) {r : PartsTold} → r ≡ prepareShort needle n (split .start) (split .period) (split .rounds + split .start)
-      → split .start ≤ k → r ≡ fiveSteps needle n
+  pub steps-short : (n : ℕ) (mode : Mode) {r : PartsTold} → r ≡ prepareShort needle n mode (split .start) (split .period) (split .rounds + split .start)
+      → split .start ≤ k → r ≡ fiveSteps needle n mode
   unfolding fiveSteps
-  steps-short n a h =
+  steps-short n mode a h =
       let j = agreed needle (chosen needle .start) (chosen needle .period) in
       let l : chosen needle .start ≤ j = rw (e, k-is) at h in
       let pairs : min (j + 1) (chosen needle .start) ≡ chosen needle .start = omega arith in
@@ -178,20 +181,20 @@ module _ (needle : List ℕ) {split : Suffix} {k : ℕ} (pos : 0 < length needle
 -- ---- the whole
 
 module _ (needle : List ℕ) (n : ℕ) {c : Check} (e : c ≡ lengths n (length needle)) where
-  pub prepare-refuses : {why : Refusal} {r : PartsTold} → r ≡ refuse why → c ≡ Check.Refuse why → r ≡ prepareRule needle n
+  pub prepare-refuses : (mode : Mode) {why : Refusal} {r : PartsTold} → r ≡ refuse why → c ≡ Check.Refuse why → r ≡ prepareRule needle n mode
   unfolding prepareRule
-  prepare-refuses q h = q ∙ rw (← e, h)
+  prepare-refuses mode q h = q ∙ rw (← e, h)
 
   module _ (passed : c ≡ Check.Pass) where
-    pub prepare-empty : {r : PartsTold} → r ≡ emptyWalk n → length needle ≡ 0 → r ≡ prepareRule needle n
+    pub prepare-empty : (mode : Mode) {r : PartsTold} → r ≡ emptyWalk n mode → length needle ≡ 0 → r ≡ prepareRule needle n mode
     unfolding prepareRule
-    prepare-empty q z = q ∙ rw (← e, passed, eq-eqb _ _ z)
+    prepare-empty mode q z = q ∙ rw (← e, passed, eq-eqb _ _ z)
 
     -- what is not empty, and within the bound
     module _ (some-letters : length needle ≡ 0 → ⊥) where
-      pub prepare-steps : {r : PartsTold} → r ≡ fiveSteps needle n → r ≡ prepareRule needle n
+      pub prepare-steps : (mode : Mode) {r : PartsTold} → r ≡ fiveSteps needle n mode → r ≡ prepareRule needle n mode
       unfolding prepareRule
-      prepare-steps q = q ∙ rw (← e, passed, ne-eqb _ _ some-letters)
+      prepare-steps mode q = q ∙ rw (← e, passed, ne-eqb _ _ some-letters)
 
       pub passed-some : 0 < length needle
       passed-some = omega arith
@@ -200,5 +203,5 @@ module _ (needle : List ℕ) (n : ℕ) {c : Check} (e : c ≡ lengths n (length 
     passed-small = lengths-pass n (length needle) e passed .needle-in
 
 -- what each return of preparing has to show, from the rule's answer alone
-pub prepare-settled : (needle : List ℕ) (n : ℕ) {r : PartsTold} → r ≡ prepareRule needle n → (r ≡ prepareRule needle n) × NoState r
-prepare-settled needle n e = (e, subst NoState (sym e) (refused-fits-nothing needle n))
+pub prepare-settled : (needle : List ℕ) (n : ℕ) (mode : Mode) {r : PartsTold} → r ≡ prepareRule needle n mode → (r ≡ prepareRule needle n mode) × NoState r
+prepare-settled needle n mode e = (e, subst NoState (sym e) (refused-fits-nothing needle n mode))

@@ -23,6 +23,8 @@ use Rattle.record.specs.declared.Memory.{Memory}
 use Rattle.record.specs.declared.Memory.the-variants.{Long, Short}
 use Rattle.record.specs.declared.Kind.{Kind}
 use Rattle.record.specs.declared.Kind.the-variants.{TwoWay, Empty}
+use Rattle.record.specs.declared.Mode.{Mode}
+use Rattle.record.specs.declared.Mode.the-variants.{NonOverlapping}
 use Rattle.record.specs.declared.Fixed.{Fixed}
 use Rattle.record.specs.declared.Moving.{Moving}
 use Rattle.record.specs.declared.Counts.{Counts}
@@ -78,15 +80,16 @@ ready f memory kind k =
     }
 
 -- 3. "Equal: Short. p is kept and b is m minus the greater of the two reverse starts. `byteset` covers the first p bytes; memories are 0 and m."
--- `before` is what was counted before the reverse passes.
-unfoldable pub prepareShort : List ℕ → ℕ → ℕ → ℕ → ℕ → PartsTold
-prepareShort needle n c p before =
+-- "The mode is chosen at preparing." (02 [3]) `before` is what was counted before the reverse passes.
+unfoldable pub prepareShort : List ℕ → ℕ → Mode → ℕ → ℕ → ℕ → PartsTold
+prepareShort needle n mode c p before =
     let lower = rounds false (back needle) (some p) in
     let higher = rounds true (back needle) (some p) in
     ready
     (record {
       «needle_len» = length needle;
       «haystack_len» = n;
+      mode = mode;
       «crit_pos» = c;
       «crit_pos_back» = length needle - max (lower .start) (higher .start);
       period = p;
@@ -97,12 +100,13 @@ prepareShort needle n c p before =
     (before + reverseRounds needle p)
 
 -- 4. "Different: Long, p = max(c, m-c)+1, b = c, `byteset` covers the whole needle."
-unfoldable pub prepareLong : List ℕ → ℕ → ℕ → ℕ → PartsTold
-prepareLong needle n c before =
+unfoldable pub prepareLong : List ℕ → ℕ → Mode → ℕ → ℕ → PartsTold
+prepareLong needle n mode c before =
     ready
     (record {
       «needle_len» = length needle;
       «haystack_len» = n;
+      mode = mode;
       «crit_pos» = c;
       «crit_pos_back» = c;
       period = max c (length needle - c) + 1;
@@ -113,14 +117,14 @@ prepareLong needle n c before =
     before
 
 -- the five steps
-unfoldable pub fiveSteps : List ℕ → ℕ → PartsTold
-fiveSteps needle n =
+unfoldable pub fiveSteps : List ℕ → ℕ → Mode → PartsTold
+fiveSteps needle n mode =
     let c = chosen needle .start in
     let p = chosen needle .period in
     let k = agreed needle c p in
     -- the pairs that step 2 compares, the differing one included
     let before = forwardRounds needle + min (k + 1) c in
-    cond (ltb k c) (prepareLong needle n c before) (prepareShort needle n c p before)
+    cond (ltb k c) (prepareLong needle n mode c before) (prepareShort needle n mode c p before)
 
 -- what the code holds of the passes
 abbrev pub toReverse : Suffix → ReverseSuffix
@@ -130,19 +134,19 @@ abbrev pub choice : List ℕ → Suffix
 choice needle = record { start = chosen needle .start; period = chosen needle .period; rounds = forwardRounds needle }
 
 -- what is fixed where there is nothing to split
-abbrev pub lengthsAlone : ℕ → ℕ → Fixed
-lengthsAlone m n = record { «needle_len» = m; «haystack_len» = n; «crit_pos» = 0; «crit_pos_back» = 0; period = 0; byteset = 0 }
+abbrev pub lengthsAlone : ℕ → ℕ → Mode → Fixed
+lengthsAlone m n mode = record { «needle_len» = m; «haystack_len» = n; mode = mode; «crit_pos» = 0; «crit_pos_back» = 0; period = 0; byteset = 0 }
 
 -- "The record gains a second kind of walk" (02 [1]): an empty needle's. Both directions give a Match first, and "all counts are 0".
-abbrev pub emptyWalk : ℕ → PartsTold
-emptyWalk n = ready (lengthsAlone 0 n) Long (Empty true true) 0
+abbrev pub emptyWalk : ℕ → Mode → PartsTold
+emptyWalk n mode = ready (lengthsAlone 0 n mode) Long (Empty true true) 0
 
 -- "refused, it gives no state": the record is then this one, which fits nothing (`NoState`)
 abbrev pub refuse : Refusal → PartsTold
 refuse why =
     record {
       answer = refused (numberOf why);
-      fixed = lengthsAlone 0 0;
+      fixed = lengthsAlone 0 0 NonOverlapping;
       moving = record { position = 0; end = 0; memory = Long; kind = TwoWay };
       counts = preparing 0;
     }
@@ -151,9 +155,9 @@ abbrev pub orParts : Check → PartsTold → PartsTold
 orParts Check.Pass otherwise = otherwise
 orParts (Check.Refuse why) otherwise = refuse why
 
--- "Preparing takes the needle and the haystack's length (check 1 is made on that length)": checks 1 and 2
-unfoldable pub prepareRule : List ℕ → ℕ → PartsTold
-prepareRule needle n = orParts (lengths n (length needle)) (cond (eqb (length needle) 0) (emptyWalk n) (fiveSteps needle n))
+-- "Preparing takes the needle and the haystack's length (check 1 is made on that length)": checks 1 and 2. "The mode is chosen at preparing." (02 [3])
+unfoldable pub prepareRule : List ℕ → ℕ → Mode → PartsTold
+prepareRule needle n mode = orParts (lengths n (length needle)) (cond (eqb (length needle) 0) (emptyWalk n mode) (fiveSteps needle n mode))
 
 -- "refused, it gives no state": what is handed back then fits no needle and no haystack
 abbrev pub NoState : PartsTold → Type 0

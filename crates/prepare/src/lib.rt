@@ -5,6 +5,7 @@ use record::Counts;
 use record::Fixed;
 use record::Kind;
 use record::Memory;
+use record::Mode;
 use record::Moving;
 use suffix::ReverseAnswer;
 use suffix::ReverseSuffix;
@@ -116,9 +117,9 @@ fn prepared(fixed: Fixed, memory: Memory, kind: Kind, preparing: usize) -> Parts
 }
 
 // Step 3: p is a period of the needle, and the reverse passes stop where they find it. `before` is what was counted before them.
-fn short(needle: &[u8], n: usize, c: usize, p: usize, before: usize) -> Parts
+fn short(needle: &[u8], n: usize, mode: Mode, c: usize, p: usize, before: usize) -> Parts
     requires { ⌜ Period (front (now needle)) p × (length (now needle) ≤ needleBound) × (before ≤ 5 * length (now needle)) ⌝ }
-    ensures { λ r. ⌜ partsTold r ≡ prepareShort (now (needle .entry)) n c p before ⌝ }
+    ensures { λ r. ⌜ partsTold r ≡ prepareShort (now (needle .entry)) n mode c p before ⌝ }
 {
     let m = needle.len();
     let lower = reverse_maximal(needle, p, false);
@@ -127,6 +128,7 @@ fn short(needle: &[u8], n: usize, c: usize, p: usize, before: usize) -> Parts
     let fixed = Fixed {
         needle_len: m,
         haystack_len: n,
+        mode,
         crit_pos: c,
         crit_pos_back: m - later,
         period: p,
@@ -145,44 +147,47 @@ fn short(needle: &[u8], n: usize, c: usize, p: usize, before: usize) -> Parts
 }
 
 // Step 4: it is none, so the period that is kept is only one that is safe to move by.
-fn long(needle: &[u8], n: usize, c: usize, before: usize) -> Parts
+fn long(needle: &[u8], n: usize, mode: Mode, c: usize, before: usize) -> Parts
     requires { ⌜ c ≤ length (now needle) ⌝ }
-    ensures { λ r. ⌜ partsTold r ≡ prepareLong (now (needle .entry)) n c before ⌝ }
+    ensures { λ r. ⌜ partsTold r ≡ prepareLong (now (needle .entry)) n mode c before ⌝ }
 {
     let m = needle.len();
+    let period = number::larger(c, m - c) + 1;
     let fixed = Fixed {
         needle_len: m,
         haystack_len: n,
+        mode,
         crit_pos: c,
         crit_pos_back: c,
-        period: number::larger(c, m - c) + 1,
+        period,
         byteset: byteset::byteset_create(needle),
     };
     prepared(fixed, Memory::Long, Kind::TwoWay, before)
 }
 
 // The five steps, for a needle that is not empty and within the bound.
-fn five_steps(needle: &[u8], n: usize) -> Parts
+fn five_steps(needle: &[u8], n: usize, mode: Mode) -> Parts
     requires { ⌜ (0 < length (now needle)) × (length (now needle) ≤ needleBound) ⌝ }
-    ensures { λ r. ⌜ partsTold r ≡ fiveSteps (now (needle .entry)) n ⌝ }
+    ensures { λ r. ⌜ partsTold r ≡ fiveSteps (now (needle .entry)) n mode ⌝ }
 {
     let split = choose(needle);
     let c = split.start;
     let p = split.period;
     let agreed = compare::agree(&needle[0..c], &needle[p..p + c]);
     if agreed < c {
-        return long(needle, n, c, split.rounds + (agreed + 1));
+        return long(needle, n, mode, c, split.rounds + (agreed + 1));
     }
-    short(needle, n, c, p, split.rounds + c)
+    short(needle, n, mode, c, p, split.rounds + c)
 }
 
-// What preparing fixes where it has nothing to split: the lengths, and zeros.
-fn lengths_alone(m: usize, n: usize) -> Fixed
-    ensures { λ r. ⌜ r ≡ lengthsAlone m n ⌝ }
+// What preparing fixes where it has nothing to split: the lengths and the mode, and zeros.
+fn lengths_alone(m: usize, n: usize, mode: Mode) -> Fixed
+    ensures { λ r. ⌜ r ≡ lengthsAlone m n mode ⌝ }
 {
     Fixed {
         needle_len: m,
         haystack_len: n,
+        mode,
         crit_pos: 0,
         crit_pos_back: 0,
         period: 0,
@@ -191,14 +196,14 @@ fn lengths_alone(m: usize, n: usize) -> Fixed
 }
 
 // An empty needle: nothing is looked at, and in both directions a match is the first thing to come.
-fn empty(n: usize) -> Parts
-    ensures { λ r. ⌜ partsTold r ≡ emptyWalk n ⌝ }
+fn empty(n: usize, mode: Mode) -> Parts
+    ensures { λ r. ⌜ partsTold r ≡ emptyWalk n mode ⌝ }
 {
     let kind = Kind::Empty {
         is_match_fw: true,
         is_match_bw: true,
     };
-    prepared(lengths_alone(0, n), Memory::Long, kind, 0)
+    prepared(lengths_alone(0, n, mode), Memory::Long, kind, 0)
 }
 
 // What is handed back where nothing is prepared.
@@ -207,7 +212,7 @@ fn refused(why: Refusal) -> Parts
 {
     Parts {
         answer: Preparation::Refused(why),
-        fixed: lengths_alone(0, 0),
+        fixed: lengths_alone(0, 0, Mode::NonOverlapping),
         moving: Moving {
             position: 0,
             end: 0,
@@ -218,9 +223,9 @@ fn refused(why: Refusal) -> Parts
     }
 }
 
-// Prepares a walk for a needle in a haystack of n bytes.
-pub fn prepare(needle: &[u8], n: usize) -> Parts
-    ensures rule { λ r. ⌜ partsTold r ≡ prepareRule (now (needle .entry)) n ⌝ }
+// Prepares a walk for a needle in a haystack of n bytes, in a mode.
+pub fn prepare(needle: &[u8], n: usize, mode: Mode) -> Parts
+    ensures rule { λ r. ⌜ partsTold r ≡ prepareRule (now (needle .entry)) n mode ⌝ }
     ensures meaning { λ r. ⌜ NoState (partsTold r) ⌝ }
 {
     let check = limits::check_lengths(n, needle.len());
@@ -228,7 +233,7 @@ pub fn prepare(needle: &[u8], n: usize) -> Parts
         return refused(why);
     }
     if needle.len() == 0 {
-        return empty(n);
+        return empty(n, mode);
     }
-    five_steps(needle, n)
+    five_steps(needle, n, mode)
 }

@@ -3,7 +3,7 @@
 -- Assumes nothing.
 use Prim.Native.Nat.{ℕ, _+_, _-_, _<_, _≤_, max}
 use mathlib.Core.Path.{_≡_, refl, sym, subst}
-use mathlib.Core.Bool.{true, false, cond, false≢true}
+use mathlib.Core.Bool.{Bool, true, false, cond, false≢true}
 use mathlib.Core.Logic.{_⊎_, ⊎-elim}
 use mathlib.Core.List.{List}
 use native.Mathlib.Omega.{arith}
@@ -12,6 +12,7 @@ use lib.ListN.{length}
 use Rattle.words.proofs.Tests.{Decides, decides-eq, decides-lt, decides-le, decides-and, decides-or, decides-iff}
 use Rattle.windows.specs.Mirror.{mirroredPlan}
 use Rattle.windows.specs.Shape.{Shape, BackShape}
+use Rattle.windows.proofs.Matches.{Follows, follows-shape}
 use Rattle.record.specs.declared.Memory.{Memory}
 use Rattle.record.specs.declared.Memory.the-variants.{Long, Short}
 use Rattle.record.specs.declared.Kind.{Kind}
@@ -19,7 +20,7 @@ use Rattle.record.specs.declared.Kind.the-variants.{TwoWay, Empty}
 use Rattle.record.specs.declared.Fixed.{Fixed}
 use Rattle.record.specs.declared.Moving.{Moving}
 use Rattle.record.specs.Fits.{fitsShort, fitsLong, fitsSplits, fits}
-use Rattle.record.specs.Kinds.{flagsOf, forwardMemory, backwardMemory, forwardPlan, backwardPlan}
+use Rattle.record.specs.Kinds.{flagsOf, overlaps, forwardMemory, backwardMemory, forwardPlan, backwardPlan, backwardPeriodMemory}
 
 -- the tests of fitsShort, fitsLong and fits as facts
 pub record ShortFits (m c b p forward backward : ℕ) : Type 0 where
@@ -95,6 +96,30 @@ decides-fits needle haystack f s =
     (decides-and _ _ (decides-le (s .end) (length haystack))
     (decides-kind (length needle) f (s .memory) (s .kind))))))
 
+-- what follows a match in each mode
+module _ (m : ℕ) (f : Fixed) (memory : Memory) where
+  pub forward-follows : Follows (forwardPlan m f memory) m
+  forward-follows = go (overlaps (f .mode)) refl
+    where
+      go : (b : Bool) → overlaps (f .mode) ≡ b → Follows (forwardPlan m f memory) m
+      go false e = Follows.past-needle (rw e) (rw e)
+      go true e = Follows.by-period (rw e) (rw e)
+
+  pub backward-follows : Follows (mirroredPlan m (backwardPlan m f memory)) m
+  backward-follows = go (overlaps (f .mode)) refl
+    where
+      go : (b : Bool) → overlaps (f .mode) ≡ b → Follows (mirroredPlan m (backwardPlan m f memory)) m
+      go false e = Follows.past-needle (rw e) (rw e (omega arith))
+      go true e = Follows.by-period (rw e) (rw e)
+
+  -- no number of the backward plan is above m, where those that preparing fixed are not
+  back-shape : f .«crit_pos_back» ≤ m → f .period ≤ m → backwardPeriodMemory m (f .period) memory ≤ m → BackShape (backwardPlan m f memory) m
+  back-shape split-in period-in memory-in = go (overlaps (f .mode)) refl
+    where
+      go : (b : Bool) → overlaps (f .mode) ≡ b → BackShape (backwardPlan m f memory) m
+      go false e = rw e (omega arith)
+      go true e = rw e (omega arith)
+
 -- what the walks rest on, for a needle of m letters in a haystack of n
 pub record ForwardFits (m n : ℕ) (f : Fixed) (s : Moving) : Type 0 where
   pub shape : Shape (forwardPlan m f (s .memory)) m
@@ -110,19 +135,33 @@ pub record BackwardFits (m n : ℕ) (f : Fixed) (s : Moving) : Type 0 where
 module _ (m n : ℕ) (f : Fixed) (s : Moving) (here : s .position ≤ n) (there : s .end ≤ n) where
   forward-fits : (memory : Memory) → s .memory ≡ memory → SplitsFit m (f .«crit_pos») (f .«crit_pos_back») (f .period) memory → ForwardFits m n f s
   forward-fits (Short forward backward) e k =
-      record { shape = rw e (omega arith); memory = rw e (⊎-elim (λ h. omega arith) (λ h. omega arith) (k .forward-is)); within = here }
-  forward-fits Long e k = record { shape = rw e (omega arith); memory = rw e (omega arith); within = here }
+      record {
+        shape = rw e (follows-shape (forward-follows m f (Short forward backward)) (omega arith) (omega arith) (omega arith) (omega arith));
+        memory = rw e (⊎-elim (λ h. omega arith) (λ h. omega arith) (k .forward-is));
+        within = here;
+      }
+  forward-fits Long e k =
+      record {
+        shape = rw e (follows-shape (forward-follows m f Long) (omega arith) (omega arith) (omega arith) (omega arith));
+        memory = rw e (omega arith);
+        within = here;
+      }
 
   backward-fits : (memory : Memory) → s .memory ≡ memory → SplitsFit m (f .«crit_pos») (f .«crit_pos_back») (f .period) memory → BackwardFits m n f s
   backward-fits (Short forward backward) e k =
       record {
-        shape = rw e (omega arith);
-        back = rw e (omega arith);
+        shape = rw e (follows-shape (backward-follows m f (Short forward backward)) (omega arith) (omega arith) (omega arith) (omega arith));
+        back = rw e (back-shape m f (Short forward backward) (k .back-in) (k .period-in) (k .period-in));
         memory = rw e (⊎-elim (λ h. omega arith) (λ h. omega arith) (k .backward-is));
         within = there;
       }
   backward-fits Long e k =
-      record { shape = rw e (omega arith); back = rw e (omega arith); memory = rw e (omega arith); within = there }
+      record {
+        shape = rw e (follows-shape (backward-follows m f Long) (omega arith) (omega arith) (omega arith) (omega arith));
+        back = rw e (back-shape m f Long (omega arith) (omega arith) (omega arith));
+        memory = rw e (omega arith);
+        within = there;
+      }
 
 -- a walk that is not an empty one is a two way one
 pub told-two-way : (kind : Kind) → flagsOf kind .empty ≡ false → kind ≡ TwoWay

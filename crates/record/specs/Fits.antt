@@ -28,7 +28,7 @@ fitsSplits m c b p (Short forward backward) = fitsShort m c b p forward backward
 fitsSplits m c b p Long = fitsLong m c b p
 
 -- "A state fits a needle and haystack when all hold: both stored lengths are theirs; `position` and `end` are at most n; .. Any `byteset` fits."
--- "An empty walk's state fits an empty needle only, .. flags as they may be." (02 [1])
+-- "An empty walk's state fits an empty needle only, .. flags as they may be." (02 [1]) Either mode fits.
 unfoldable pub fits : List ℕ → List ℕ → Fixed → Moving → Bool
 fits needle haystack f s =
     eqb (f .«needle_len») (length needle)

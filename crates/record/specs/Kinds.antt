@@ -1,7 +1,7 @@
 -- What the record is to each direction of a walk: what it goes by, where it stands, and the record once it has moved.
--- This is the one place that tells the kinds of walk apart, and those of a two way walk's memory. Assumes nothing.
+-- This is the one place that tells the kinds of walk apart, the modes, and the kinds of a two way walk's memory. Assumes nothing.
 use Prim.Native.Nat.{ℕ, _-_}
-use mathlib.Core.Bool.{true, false}
+use mathlib.Core.Bool.{Bool, true, false, cond}
 use Rattle.windows.specs.declared.Plan.{Plan}
 use Rattle.windows.specs.declared.Cursor.{Cursor}
 use Rattle.record.specs.declared.Memory.{Memory}
@@ -9,6 +9,8 @@ use Rattle.record.specs.declared.Memory.the-variants.{Long, Short}
 use Rattle.record.specs.declared.Kind.{Kind}
 use Rattle.record.specs.declared.Kind.the-variants.{TwoWay, Empty}
 use Rattle.record.specs.declared.Flags.{Flags}
+use Rattle.record.specs.declared.Mode.{Mode}
+use Rattle.record.specs.declared.Mode.the-variants.{NonOverlapping, Overlapping}
 use Rattle.record.specs.declared.Fixed.{Fixed}
 use Rattle.record.specs.declared.Moving.{Moving}
 
@@ -18,6 +20,21 @@ use Rattle.record.specs.declared.Moving.{Moving}
 abbrev pub flagsOf : Kind → Flags
 flagsOf TwoWay = record { empty = false; «is_match_fw» = false; «is_match_bw» = false }
 flagsOf (Empty forward backward) = record { empty = true; «is_match_fw» = forward; «is_match_bw» = backward }
+
+-- ---- the modes
+
+-- "For run-length faults we need every occurrence, not the non-overlapping ones" (02 [3]): whether it is the mode that lists every occurrence
+abbrev pub overlaps : Mode → Bool
+overlaps NonOverlapping = false
+overlaps Overlapping = true
+
+-- what follows a match: a number of its own, or, in that mode, the one that follows a difference in the second part
+abbrev pub afterMatch : Mode → ℕ → ℕ → ℕ
+afterMatch mode apart by-period = cond (overlaps mode) by-period apart
+
+-- how far a match moves, in either direction: "move by m", "down by m"; overlapping: "after a match move by p", "Long moves by its stored p" (02 [3])
+abbrev pub matchShift : ℕ → Fixed → ℕ
+matchShift m f = afterMatch (f .mode) m (f .period)
 
 -- ---- a two way walk
 
@@ -48,15 +65,15 @@ abbrev pub backwardPeriodMemory : ℕ → ℕ → Memory → ℕ
 backwardPeriodMemory m p Long = m
 backwardPeriodMemory m p (Short forward backward) = p
 
--- what a walk goes by in each direction; a match: "move by m, memory 0", backward "down by m, memory m"
+-- What a walk goes by in each direction. A match: "memory 0", backward "memory m"; overlapping: "keep memory m-p (backward p)" (02 [3]).
 abbrev pub forwardPlan : ℕ → Fixed → Memory → Plan
 forwardPlan m f memory =
     record {
       split = f .«crit_pos»;
       period = f .period;
       «period_memory» = forwardPeriodMemory m (f .period) memory;
-      shift = m;
-      «shift_memory» = 0;
+      shift = matchShift m f;
+      «shift_memory» = afterMatch (f .mode) 0 (forwardPeriodMemory m (f .period) memory);
     }
 
 abbrev pub backwardPlan : ℕ → Fixed → Memory → Plan
@@ -65,8 +82,8 @@ backwardPlan m f memory =
       split = f .«crit_pos_back»;
       period = f .period;
       «period_memory» = backwardPeriodMemory m (f .period) memory;
-      shift = m;
-      «shift_memory» = m;
+      shift = matchShift m f;
+      «shift_memory» = afterMatch (f .mode) m (backwardPeriodMemory m (f .period) memory);
     }
 
 -- where it stands

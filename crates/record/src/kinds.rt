@@ -1,13 +1,15 @@
-// What the kind of a walk, and of its memory, is to its two directions: what they go by, where they stand, and what they set.
+// What the kind of a walk, its mode and the kind of its memory are to its two directions: what they go by, where they stand, and what
+// they set.
 use crate::Fixed;
 use crate::Flags;
 use crate::Kind;
 use crate::Memory;
+use crate::Mode;
 use crate::Moving;
 use windows::Cursor;
 use windows::Plan;
 ghost use mathlib.Core.Path.{_≡_};
-ghost use Rattle.record.specs.Kinds.{flagsOf, forwardMemory, backwardMemory, setForward, setBackward, forwardPeriodMemory, backwardPeriodMemory, forwardPlan, backwardPlan, forwardCursor, backwardCursor, movedForward, movedBackward};
+ghost use Rattle.record.specs.Kinds.{flagsOf, overlaps, afterMatch, matchShift, forwardMemory, backwardMemory, setForward, setBackward, forwardPeriodMemory, backwardPeriodMemory, forwardPlan, backwardPlan, forwardCursor, backwardCursor, movedForward, movedBackward};
 
 // The one place that tells the kinds of walk apart.
 pub fn flags_of(kind: Kind) -> Flags
@@ -27,6 +29,16 @@ pub fn flags_of(kind: Kind) -> Flags
             is_match_fw,
             is_match_bw,
         },
+    }
+}
+
+// The one place that tells the modes apart.
+pub fn overlaps(mode: Mode) -> bool
+    ensures { λ r. ⌜ r ≡ overlaps mode ⌝ }
+{
+    match mode {
+        Mode::NonOverlapping => false,
+        Mode::Overlapping => true,
     }
 }
 
@@ -111,28 +123,48 @@ fn backward_period_memory(m: usize, period: usize, memory: Memory) -> usize
     }
 }
 
+// What follows a match: a number of its own, or, where matches may overlap, the one that follows a difference in the part that is
+// compared second.
+fn after_match(mode: Mode, apart: usize, by_period: usize) -> usize
+    ensures { λ r. ⌜ r ≡ afterMatch mode apart «by_period» ⌝ }
+{
+    if overlaps(mode) { by_period } else { apart }
+}
+
+// How far a match moves, in either direction.
+fn match_shift(m: usize, fixed: Fixed) -> usize
+    ensures { λ r. ⌜ r ≡ matchShift m fixed ⌝ }
+{
+    let mode = fixed.mode;
+    after_match(mode, m, fixed.period)
+}
+
 // What a walk in a direction goes by, for a needle of m bytes.
 pub fn forward_plan(m: usize, fixed: Fixed, memory: Memory) -> Plan
     ensures { λ r. ⌜ r ≡ forwardPlan m fixed memory ⌝ }
 {
+    let mode = fixed.mode;
+    let period_memory = forward_period_memory(m, fixed.period, memory);
     Plan {
         split: fixed.crit_pos,
         period: fixed.period,
-        period_memory: forward_period_memory(m, fixed.period, memory),
-        shift: m,
-        shift_memory: 0,
+        period_memory,
+        shift: match_shift(m, fixed),
+        shift_memory: after_match(mode, 0, period_memory),
     }
 }
 
 pub fn backward_plan(m: usize, fixed: Fixed, memory: Memory) -> Plan
     ensures { λ r. ⌜ r ≡ backwardPlan m fixed memory ⌝ }
 {
+    let mode = fixed.mode;
+    let period_memory = backward_period_memory(m, fixed.period, memory);
     Plan {
         split: fixed.crit_pos_back,
         period: fixed.period,
-        period_memory: backward_period_memory(m, fixed.period, memory),
-        shift: m,
-        shift_memory: m,
+        period_memory,
+        shift: match_shift(m, fixed),
+        shift_memory: after_match(mode, m, period_memory),
     }
 }
 

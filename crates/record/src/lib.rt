@@ -11,6 +11,7 @@ pub use kinds::forward_cursor;
 pub use kinds::forward_plan;
 pub use kinds::moved_backward;
 pub use kinds::moved_forward;
+pub use kinds::overlaps;
 
 // What a walk remembers of the window before: nothing where the needle's period is long, else a number for each direction.
 pub enum Memory {
@@ -35,10 +36,17 @@ pub struct Flags {
     pub is_match_bw: bool,
 }
 
+// Which matches a walk lists: those that do not overlap, or every occurrence.
+pub enum Mode {
+    NonOverlapping,
+    Overlapping,
+}
+
 // What preparing fixes. No call of a walk changes it.
 pub struct Fixed {
     pub needle_len: usize,
     pub haystack_len: usize,
+    pub mode: Mode,
     pub crit_pos: usize,
     pub crit_pos_back: usize,
     pub period: usize,

@@ -8,10 +8,10 @@ use native.Mathlib.Omega.{arith}
 use lib.Dec.{eqb}
 use lib.ListN.{length}
 use Rattle.words.specs.Word.{front}
-use Rattle.limits.specs.Checks.{lengths, andThen, Within}
+use Rattle.limits.specs.Checks.{lengths, refuseIf, andThen, Within}
 use Rattle.limits.specs.declared.Check.{Check}
 use Rattle.limits.specs.declared.Refusal.{Refusal}
-use Rattle.limits.specs.declared.Refusal.the-variants.{StateDoesNotFit}
+use Rattle.limits.specs.declared.Refusal.the-variants.{StateDoesNotFit, StepOverlapping}
 use Rattle.limits.proofs.Room.{haystack-room, needle-room}
 use Rattle.limits.proofs.Checks.{lengths-pass}
 use Rattle.byteset.specs.Fingerprint.{has}
@@ -20,53 +20,60 @@ use Rattle.windows.specs.declared.Cursor.{Cursor}
 use Rattle.windows.specs.declared.Searched.{Searched}
 use Rattle.record.specs.declared.Kind.the-variants.{TwoWay}
 use Rattle.record.specs.declared.Flags.{Flags}
+use Rattle.record.specs.declared.Mode.{Mode}
 use Rattle.record.specs.declared.Fixed.{Fixed}
 use Rattle.record.specs.declared.Moving.{Moving}
 use Rattle.record.specs.Fits.{fits, fitting}
-use Rattle.record.specs.Kinds.{flagsOf, forwardPlan, backwardPlan, forwardCursor, backwardCursor, movedForward, movedBackward}
+use Rattle.record.specs.Kinds.{flagsOf, overlaps, forwardPlan, backwardPlan, forwardCursor, backwardCursor, movedForward, movedBackward}
 use Rattle.record.proofs.Fitting.{state, told-two-way, two-way-some, fits-forward, fits-backward}
 use Rattle.search.specs.declared.Ending.{Ending}
 use Rattle.search.specs.declared.Walked.{Walked}
-use Rattle.search.specs.Calls.{refusal, walking, free, endingOf, forward, backward, twoWayForward, twoWayBackward, emptyForward, emptyBackward, forwardCall, backwardCall}
+use Rattle.search.specs.Calls.{stepCheck, refusal, walking, free, endingOf, forward, backward, twoWayForward, twoWayBackward, emptyForward, emptyBackward, forwardCall, backwardCall}
 use Rattle.search.specs.Code.{StopFits, TwoWayStart, ForwardStart, BackwardStart, forwardFrom, backwardFrom}
 use Rattle.search.proofs.Loops.{hit-inside, stop-fits}
 use Rattle.search.proofs.LoopsBack.{hit-inside-back}
 
 -- what a call that is not refused knows
-pub record Passed (needle haystack : List ℕ) (f : Fixed) (s : Moving) : Type 0 where
+pub record Passed (stepping : Bool) (needle haystack : List ℕ) (f : Fixed) (s : Moving) : Type 0 where
   pub within : Within (length haystack) (length needle)
   pub fit : fits needle haystack f s ≡ true
+  pub no-overlapping-step : (stepping && overlaps (f .mode)) ≡ false
+
+-- check 5
+pub step-refused : {stepping overlapping : Bool} (mode : Mode) → stepping ≡ true → overlapping ≡ overlaps mode → overlapping ≡ true → Check.Refuse StepOverlapping ≡ stepCheck stepping mode
+step-refused mode s told o = rw (s, ← told, o)
 
 module _ (needle haystack : List ℕ) (f : Fixed) (s : Moving) where
   -- the checks, in their order
-  module _ {c : Check} (e : c ≡ lengths (length haystack) (length needle)) where
-    pub check-lengths : {why : Refusal} → c ≡ Check.Refuse why → Check.Refuse why ≡ refusal needle haystack f s
+  module _ (stepping : Bool) {c : Check} (e : c ≡ lengths (length haystack) (length needle)) where
+    pub check-lengths : {why : Refusal} → c ≡ Check.Refuse why → Check.Refuse why ≡ refusal stepping needle haystack f s
     unfolding refusal
     check-lengths h = rw (← e, h)
 
     module _ (pass : c ≡ Check.Pass) {b : Bool} (decided : b ≡ fits needle haystack f s) where
-      pub check-passed : b ≡ true → Check.Pass ≡ refusal needle haystack f s
-      unfolding refusal fitting
-      check-passed h = rw (← e, pass, ← decided, h)
-
-      pub check-state : b ≡ false → Check.Refuse StateDoesNotFit ≡ refusal needle haystack f s
+      pub check-state : b ≡ false → Check.Refuse StateDoesNotFit ≡ refusal stepping needle haystack f s
       unfolding refusal fitting
       check-state h = rw (← e, pass, ← decided, h)
 
-  pub refusal-passed : refusal needle haystack f s ≡ Check.Pass → Passed needle haystack f s
+      pub check-last : {r : Check} → b ≡ true → r ≡ stepCheck stepping (f .mode) → r ≡ refusal stepping needle haystack f s
+      unfolding refusal fitting
+      check-last h q = q ∙ rw (← e, pass, ← decided, h)
+
+  pub refusal-passed : (stepping : Bool) → refusal stepping needle haystack f s ≡ Check.Pass → Passed stepping needle haystack f s
   unfolding refusal fitting
-  refusal-passed = go (lengths (length haystack) (length needle)) (fits needle haystack f s) refl refl
+  refusal-passed stepping = go (lengths (length haystack) (length needle)) (fits needle haystack f s) (stepping && overlaps (f .mode)) refl refl refl
     where
-      go : (l : Check) (d : Bool) → lengths (length haystack) (length needle) ≡ l → fits needle haystack f s ≡ d
-          → andThen l (cond d Check.Pass (Check.Refuse StateDoesNotFit)) ≡ Check.Pass
-          → Passed needle haystack f s
-      go (Check.Refuse why) d el ed q = let z : _≡_ {A = ℕ} 0 1 = cc in absurd (omega arith)
-      go Check.Pass false el ed q = let z : _≡_ {A = ℕ} 0 1 = cc in absurd (omega arith)
-      go Check.Pass true el ed q = record { within = lengths-pass _ _ (sym el) refl; fit = ed }
+      go : (l : Check) (d o : Bool) → lengths (length haystack) (length needle) ≡ l → fits needle haystack f s ≡ d → (stepping && overlaps (f .mode)) ≡ o
+          → andThen l (andThen (cond d Check.Pass (Check.Refuse StateDoesNotFit)) (refuseIf o StepOverlapping)) ≡ Check.Pass
+          → Passed stepping needle haystack f s
+      go (Check.Refuse why) d o el ed eo q = let z : _≡_ {A = ℕ} 0 1 = cc in absurd (omega arith)
+      go Check.Pass false o el ed eo q = let z : _≡_ {A = ℕ} 0 1 = cc in absurd (omega arith)
+      go Check.Pass true true el ed eo q = let z : _≡_ {A = ℕ} 0 1 = cc in absurd (omega arith)
+      go Check.Pass true false el ed eo q = record { within = lengths-pass _ _ (sym el) refl; fit = ed; no-overlapping-step = eo }
 
   -- ---- the calls, by what was checked and by the kind of the walk
-  module _ {c : Check} (checked : c ≡ refusal needle haystack f s) where
-    module _ {why : Refusal} (no-pass : c ≡ Check.Refuse why) (stepping : Bool) {r : Walked} (q : r ≡ free (Ending.Refused why) s) where
+  module _ (stepping : Bool) {c : Check} (checked : c ≡ refusal stepping needle haystack f s) where
+    module _ {why : Refusal} (no-pass : c ≡ Check.Refuse why) {r : Walked} (q : r ≡ free (Ending.Refused why) s) where
       pub forward-refused : r ≡ forwardCall stepping needle haystack f s
       unfolding forwardCall
       forward-refused = q ∙ rw (← checked, no-pass)
@@ -76,8 +83,8 @@ module _ (needle haystack : List ℕ) (f : Fixed) (s : Moving) where
       backward-refused = q ∙ rw (← checked, no-pass)
 
     module _ (pass : c ≡ Check.Pass) where
-      knows : Passed needle haystack f s
-      knows = refusal-passed (sym checked ∙ pass)
+      knows : Passed stepping needle haystack f s
+      knows = refusal-passed stepping (sym checked ∙ pass)
 
       -- a cursor of a state that fits is inside
       pub position-in : s .position ≤ length haystack
@@ -87,7 +94,7 @@ module _ (needle haystack : List ℕ) (f : Fixed) (s : Moving) where
         pub two-way-start : flags .empty ≡ false → TwoWayStart needle haystack f s
         two-way-start no-flags = record { within = knows .within; fit = knows .fit; two-way = rw told at no-flags }
 
-        module _ (stepping : Bool) {r : Walked} where
+        module _ {r : Walked} where
           pub forward-two-way : flags .empty ≡ false → r ≡ twoWayForward stepping needle haystack f s → r ≡ forwardCall stepping needle haystack f s
           unfolding forwardCall
           forward-two-way e q = q ∙ rw (← checked, pass, ← told, e)

@@ -6,8 +6,9 @@ use mathlib.Core.List.{List}
 use lib.Dec.{eqb}
 use lib.ListN.{length}
 use Rattle.words.specs.Word.{front}
-use Rattle.limits.specs.Checks.{lengths, andThen}
+use Rattle.limits.specs.Checks.{lengths, refuseIf, andThen}
 use Rattle.limits.specs.declared.Check.{Check}
+use Rattle.limits.specs.declared.Refusal.the-variants.{StepOverlapping}
 use Rattle.byteset.specs.Fingerprint.{has}
 use Rattle.windows.specs.declared.Stop.{Stop}
 use Rattle.windows.specs.declared.Searched.{Searched}
@@ -16,18 +17,23 @@ use Rattle.empty.specs.Turns.{turned}
 use Rattle.empty.specs.declared.Gives.{Gives}
 use Rattle.record.specs.declared.Kind.the-variants.{Empty}
 use Rattle.record.specs.declared.Flags.{Flags}
+use Rattle.record.specs.declared.Mode.{Mode}
 use Rattle.record.specs.declared.Fixed.{Fixed}
 use Rattle.record.specs.declared.Moving.{Moving}
 use Rattle.record.specs.declared.Counts.{Counts}
 use Rattle.record.specs.Fits.{fitting}
-use Rattle.record.specs.Kinds.{flagsOf, forwardPlan, backwardPlan, forwardCursor, backwardCursor, movedForward, movedBackward}
+use Rattle.record.specs.Kinds.{flagsOf, overlaps, forwardPlan, backwardPlan, forwardCursor, backwardCursor, movedForward, movedBackward}
 use Rattle.search.specs.declared.Ending.{Ending}
 use Rattle.search.specs.declared.Walked.{Walked}
 
--- "Checks run in the order 1, 2, 3, 4, and the first that applies is the answer"; walking no longer makes check 3
-unfoldable pub refusal : List ℕ → List ℕ → Fixed → Moving → Check
-refusal needle haystack f s =
-    andThen (lengths (length haystack) (length needle)) (fitting needle haystack f s)
+-- "A step call in this mode is refused with new number 5" (02 [3])
+abbrev pub stepCheck : Bool → Mode → Check
+stepCheck stepping mode = refuseIf (stepping && overlaps mode) StepOverlapping
+
+-- "Checks run in the order 1, 2, 3, 4, and the first that applies is the answer"; walking no longer makes check 3, and makes number 5 "after check 4" (02 [3])
+unfoldable pub refusal : Bool → List ℕ → List ℕ → Fixed → Moving → Check
+refusal stepping needle haystack f s =
+    andThen (lengths (length haystack) (length needle)) (andThen (fitting needle haystack f s) (stepCheck stepping (f .mode)))
 
 -- a call's counts: it prepares nothing
 abbrev pub walking : ℕ → ℕ → Counts
@@ -107,10 +113,10 @@ abbrev pub forwardBy : Flags → Bool → List ℕ → List ℕ → Fixed → Mo
 forwardBy flags stepping needle haystack f s = cond (flags .empty) (emptyForward stepping (length haystack) s flags) (twoWayForward stepping needle haystack f s)
 
 unfoldable pub forwardCall : Bool → List ℕ → List ℕ → Fixed → Moving → Walked
-forwardCall stepping needle haystack f s = orWalked (refusal needle haystack f s) s (forwardBy (flagsOf (s .kind)) stepping needle haystack f s)
+forwardCall stepping needle haystack f s = orWalked (refusal stepping needle haystack f s) s (forwardBy (flagsOf (s .kind)) stepping needle haystack f s)
 
 abbrev pub backwardBy : Flags → Bool → List ℕ → List ℕ → Fixed → Moving → Walked
 backwardBy flags stepping needle haystack f s = cond (flags .empty) (emptyBackward stepping s flags) (twoWayBackward stepping needle haystack f s)
 
 unfoldable pub backwardCall : Bool → List ℕ → List ℕ → Fixed → Moving → Walked
-backwardCall stepping needle haystack f s = orWalked (refusal needle haystack f s) s (backwardBy (flagsOf (s .kind)) stepping needle haystack f s)
+backwardCall stepping needle haystack f s = orWalked (refusal stepping needle haystack f s) s (backwardBy (flagsOf (s .kind)) stepping needle haystack f s)

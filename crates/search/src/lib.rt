@@ -8,12 +8,13 @@ use limits::Check;
 use limits::Refusal;
 use record::Counts;
 use record::Fixed;
+use record::Mode;
 use record::Moving;
 use windows::Stop;
 ghost use mathlib.Core.Path.{_≡_};
 ghost use mathlib.Core.Bool.{_&&_};
 ghost use lib.Dec.{eqb};
-ghost use Rattle.search.specs.Calls.{refusal, free, endingOf, twoWayForward, twoWayBackward, forwardCall, backwardCall};
+ghost use Rattle.search.specs.Calls.{stepCheck, refusal, free, endingOf, twoWayForward, twoWayBackward, forwardCall, backwardCall};
 ghost use Rattle.search.specs.Code.{StopFits, TwoWayStart};
 
 // What a call comes to: it is refused, a step finds nothing left, a match, a part passed without one, or no room for a further window.
@@ -32,19 +33,31 @@ pub struct Walked {
     pub counts: Counts,
 }
 
-// Checks 1, 2 and 4: the first that refuses the call, if one does.
-fn check(haystack: &[u8], needle: &[u8], fixed: Fixed, moving: Moving) -> Check
-    ensures { λ r. ⌜ r ≡ refusal (now (needle .entry)) (now (haystack .entry)) fixed moving ⌝ }
+// Check 5: a step covers the haystack part by part, which matches that overlap do not.
+fn check_step(stepping: bool, mode: Mode) -> Check
+    ensures { λ r. ⌜ r ≡ stepCheck stepping mode ⌝ }
+{
+    if stepping {
+        if record::overlaps(mode) {
+            return Check::Refuse(Refusal::StepOverlapping);
+        }
+    }
+    Check::Pass
+}
+
+// Checks 1, 2, 4 and 5: the first that refuses the call, if one does.
+fn check(haystack: &[u8], needle: &[u8], fixed: Fixed, moving: Moving, stepping: bool) -> Check
+    ensures { λ r. ⌜ r ≡ refusal stepping (now (needle .entry)) (now (haystack .entry)) fixed moving ⌝ }
 {
     let lengths = limits::check_lengths(haystack.len(), needle.len());
     if let Check::Refuse(why) = lengths {
         return Check::Refuse(why);
     }
     if record::fits(haystack, needle, fixed, moving) {
-        Check::Pass
-    } else {
-        Check::Refuse(Refusal::StateDoesNotFit)
+        let mode = fixed.mode;
+        return check_step(stepping, mode);
     }
+    Check::Refuse(Refusal::StateDoesNotFit)
 }
 
 // Whether a step finds nothing left: the walk stands at the end that it goes to.
@@ -152,7 +165,7 @@ pub fn forward(
 ) -> Walked
     ensures { λ r. ⌜ r ≡ forwardCall stepping (now (needle .entry)) (now (haystack .entry)) fixed moving ⌝ }
 {
-    let check = check(haystack, needle, fixed, moving);
+    let check = check(haystack, needle, fixed, moving, stepping);
     if let Check::Refuse(why) = check {
         return free(Ending::Refused(why), moving);
     }
@@ -174,7 +187,7 @@ pub fn backward(
 ) -> Walked
     ensures { λ r. ⌜ r ≡ backwardCall stepping (now (needle .entry)) (now (haystack .entry)) fixed moving ⌝ }
 {
-    let check = check(haystack, needle, fixed, moving);
+    let check = check(haystack, needle, fixed, moving, stepping);
     if let Check::Refuse(why) = check {
         return free(Ending::Refused(why), moving);
     }

@@ -10,6 +10,7 @@ use Rattle.limits.specs.Said.{Said, refused, given, LosesNothing}
 use Rattle.limits.specs.declared.Refusal.{Refusal}
 use Rattle.limits.proofs.Said.{by-way-back, refusalOf, refusal-again}
 use Rattle.record.specs.declared.Fixed.{Fixed}
+use Rattle.record.specs.declared.Mode.{Mode}
 use Rattle.prepare.specs.Prepare.{PartsTold, prepareRule}
 use Rattle.search.specs.Calls.{forwardCall, backwardCall}
 use Rattle.search.specs.declared.Ending.{Ending}
@@ -43,8 +44,8 @@ module _ {ending : Ending} where
 
 -- ---- preparing and the four calls
 
-pub new-is : (needle : List ℕ) (n : ℕ) {r : PartsTold} → r ≡ prepareRule needle n → ofParts r ≡ newRule needle n
-new-is needle n e = rw e
+pub new-is : (needle : List ℕ) (n : ℕ) (mode : Mode) {r : PartsTold} → r ≡ prepareRule needle n mode → ofParts r ≡ newRule needle n mode
+new-is needle n mode e = rw e
 
 module _ (f : Fixed) (r : Walked) where
   pub step-of-is : {a : Said StepTerm} (low high : ℕ) → a ≡ stepAnswer (r .ending) low high

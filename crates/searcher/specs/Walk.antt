@@ -9,6 +9,7 @@ use Rattle.limits.specs.Said.{Said, refused, given}
 use Rattle.prepare.specs.Prepare.{preparationSaid, PartsTold, prepareRule, NoState}
 use Rattle.record.specs.declared.Counts.{Counts}
 use Rattle.record.specs.declared.Fixed.{Fixed}
+use Rattle.record.specs.declared.Mode.{Mode}
 use Rattle.search.specs.Calls.{forwardCall, backwardCall}
 use Rattle.search.specs.declared.Ending.{Ending}
 use Rattle.search.specs.declared.Walked.{Walked}
@@ -61,8 +62,8 @@ matchedTold r = record { answer = matchSaid (r .answer); walk = r .walk; counts 
 abbrev pub ofParts : PartsTold → CallTold (Unit {0})
 ofParts r = record { answer = r .answer; walk = record { fixed = r .fixed; moving = r .moving }; counts = r .counts }
 
-abbrev pub newRule : List ℕ → ℕ → CallTold (Unit {0})
-newRule needle n = ofParts (prepareRule needle n)
+abbrev pub newRule : List ℕ → ℕ → Mode → CallTold (Unit {0})
+newRule needle n mode = ofParts (prepareRule needle n mode)
 
 -- "refused, it gives no state": what is handed back then fits no needle and no haystack
 abbrev pub NoWalk : CallTold (Unit {0}) → Type 0

@@ -5,6 +5,7 @@ pub use record::Counts;
 pub use record::Fixed;
 pub use record::Kind;
 pub use record::Memory;
+pub use record::Mode;
 pub use record::Moving;
 use search::Ending;
 use search::Walked;
@@ -104,12 +105,13 @@ fn match_of(fixed: Fixed, called: Walked) -> Matched
 }
 
 impl TwoWaySearcher {
-    // Prepares a walk for a needle in a haystack of `end` bytes. Where it refuses, what stands in `walk` fits nothing (`NoWalk`).
-    pub fn new(needle: &[u8], end: usize) -> Prepared
-        ensures rule { λ r. ⌜ preparedTold r ≡ newRule (now (needle .entry)) «end» ⌝ }
+    // Prepares a walk for a needle in a haystack of `end` bytes. Its mode says whether next matches may overlap; no call changes it.
+    // Where preparing refuses, what stands in `walk` fits nothing (`NoWalk`).
+    pub fn new(needle: &[u8], end: usize, mode: Mode) -> Prepared
+        ensures rule { λ r. ⌜ preparedTold r ≡ newRule (now (needle .entry)) «end» mode ⌝ }
         ensures meaning { λ r. ⌜ NoWalk (preparedTold r) ⌝ }
     {
-        let parts = prepare::prepare(needle, end);
+        let parts = prepare::prepare(needle, end, mode);
         let answer = parts.answer;
         let fixed = parts.fixed;
         let moving = parts.moving;
@@ -128,7 +130,8 @@ impl TwoWaySearcher {
         record::fits(haystack, needle, self.fixed, self.moving)
     }
 
-    // One step forward: the next part of the haystack that is a match, or in which none starts (`NextMeans`).
+    // One step forward: the next part of the haystack that is a match, or in which none starts (`NextMeans`). A walk whose matches may
+    // overlap refuses steps.
     // What the four calls mean is said of states reached from preparing with the same bytes, so it stands above them: `demand-2` of the
     // crate demands proves it of each by the name that is given here, with what the matches of any mix of calls come to.
     pub fn next(self, haystack: &[u8], needle: &[u8]) -> Stepped

@@ -1,5 +1,5 @@
--- STATE of docs/LINES.md: `L:m:n:position:end:c:b:p:SET`, `S:m:n:position:end:c:b:p:SET:FORWARD:BACKWARD` or
--- `E:m:n:position:end:FORWARD:BACKWARD`. What is read of it at a place of a line, and its text.
+-- MODE of docs/LINES.md, `n` or `o`, and STATE, `L:m:n:position:end:MODE:c:b:p:SET`, `S:m:n:position:end:MODE:c:b:p:SET:FORWARD:BACKWARD` or
+-- `E:m:n:position:end:MODE:FORWARD:BACKWARD`. What is read of it at a place of a line, and its text.
 -- Assumes nothing.
 use Prim.Native.Nat.{ℕ}
 use mathlib.Core.Bool.{Bool, true, false, cond}
@@ -8,16 +8,20 @@ use lib.ListN.{length}
 use Rattle.lines.specs.Reading.{isEnd, skipped}
 use Rattle.lines.specs.declared.Cursor.{Cursor}
 use Rattle.lines.specs.declared.Cursor.the-variants.{At, Lost}
-use Rattle.fields.specs.Fields.{flagAt, numberAt, setAt}
+use Rattle.fields.specs.Fields.{eitherAt, flagAt, numberAt, setAt}
 use Rattle.fields.specs.declared.Number.{Number}
 use Rattle.printing.specs.Printing.{formText}
 use Rattle.record.specs.declared.Memory.{Memory}
 use Rattle.record.specs.declared.Memory.the-variants.{Long, Short}
 use Rattle.record.specs.declared.Flags.{Flags}
-use Rattle.record.specs.Kinds.{flagsOf}
+use Rattle.record.specs.declared.Fixed.{Fixed}
+use Rattle.record.specs.declared.Mode.{Mode}
+use Rattle.record.specs.declared.Mode.the-variants.{NonOverlapping, Overlapping}
+use Rattle.record.specs.Kinds.{flagsOf, overlaps}
 use Rattle.record.specs.declared.Kind.the-variants.{TwoWay, Empty}
 use Rattle.searcher.specs.declared.TwoWaySearcher.{TwoWaySearcher}
 use Rattle.states.specs.declared.Read.{Read}
+use Rattle.states.specs.declared.ReadMode.{ReadMode}
 use Rattle.states.specs.declared.Letter.{Letter}
 use Rattle.states.specs.declared.Letter.the-variants.{L, S, E}
 use Rattle.states.specs.declared.Head.{Head}
@@ -48,17 +52,29 @@ twoAt s c =
     let second = fieldAt s (first .next) in
     record { first = first .value; second = second .value; next = second .next }
 
--- what all three forms have: m and n, `position` and `end`
+-- the letter of a mode: n (110) for non-overlapping, o (111) for overlapping
+abbrev pub letterOf : Mode → ℕ
+letterOf mode = cond (overlaps mode) 111 110
+
+-- the mode whose letter stands at the cursor
+unfoldable pub modeAt : List ℕ → Cursor → ReadMode
+modeAt s c =
+    let read = eitherAt s c (letterOf NonOverlapping) (letterOf Overlapping) in
+    record { mode = cond (read .set) Overlapping NonOverlapping; next = read .next }
+
+-- what all three forms have: m and n, `position` and `end`, and MODE
 unfoldable pub endsAt : List ℕ → Cursor → Ends
 endsAt s c =
     let lengths = twoAt s c in
     let places = twoAt s (lengths .next) in
+    let read = modeAt s (skipped s (places .next) 58) in
     record {
       «needle_len» = lengths .first;
       «haystack_len» = lengths .second;
       position = places .first;
       end = places .second;
-      next = places .next;
+      mode = read .mode;
+      next = read .next;
     }
 
 -- Short's two memories; Long has none
@@ -110,6 +126,7 @@ walkOf ends rest =
       fixed = record {
         «needle_len» = ends .«needle_len»;
         «haystack_len» = ends .«haystack_len»;
+        mode = ends .mode;
         «crit_pos» = rest .«crit_pos»;
         «crit_pos_back» = rest .«crit_pos_back»;
         period = rest .period;
@@ -128,30 +145,36 @@ stateAt s c =
 
 -- ---- printing
 
--- ` L:#:#:#:#:#:#:#:%`, and with S and `:#:#` behind it
-abbrev pub formOf : ℕ → List ℕ
-formOf letter = 32 ∷ letter ∷ 58 ∷ 35 ∷ 58 ∷ 35 ∷ 58 ∷ 35 ∷ 58 ∷ 35 ∷ 58 ∷ 35 ∷ 58 ∷ 35 ∷ 58 ∷ 35 ∷ 58 ∷ 37 ∷ []
+-- what all three forms begin with, behind a space: ` L:#:#:#:#:n`, with the letters of the form and of the mode, the numbers, and the text
+abbrev pub beginForm : ℕ → ℕ → List ℕ
+beginForm letter mode = 32 ∷ letter ∷ 58 ∷ 35 ∷ 58 ∷ 35 ∷ 58 ∷ 35 ∷ 58 ∷ 35 ∷ 58 ∷ mode ∷ []
 
--- the numbers of such a state, its memories last
-abbrev pub numbersOf : TwoWaySearcher → ℕ → ℕ → List ℕ
-numbersOf w forward backward =
-    w .fixed .«needle_len» ∷ w .fixed .«haystack_len» ∷ w .moving .position ∷ w .moving .end ∷ w .fixed .«crit_pos» ∷ w .fixed .«crit_pos_back» ∷ w .fixed .period ∷ w .fixed .byteset ∷ forward ∷ backward ∷ []
+abbrev pub beginNumbers : TwoWaySearcher → List ℕ
+beginNumbers w = w .fixed .«needle_len» ∷ w .fixed .«haystack_len» ∷ w .moving .position ∷ w .moving .end ∷ []
 
--- its text, with a space before it, by its memory; a long one's form has no marks for memories
+abbrev pub beginText : TwoWaySearcher → ℕ → List ℕ
+beginText w letter = formText (beginForm letter (letterOf (w .fixed .mode))) (beginNumbers w)
+
+-- what a two way state has behind that: the form `:#:#:#:%`, to which Short adds `:#:#`, and the numbers, the memories last
+abbrev pub splitsForm : List ℕ
+splitsForm = 58 ∷ 35 ∷ 58 ∷ 35 ∷ 58 ∷ 35 ∷ 58 ∷ 37 ∷ []
+
+abbrev pub splitsNumbers : Fixed → ℕ → ℕ → List ℕ
+splitsNumbers f forward backward =
+    f .«crit_pos» ∷ f .«crit_pos_back» ∷ f .period ∷ f .byteset ∷ forward ∷ backward ∷ []
+
+-- its text, by its memory; a long one's form has no marks for memories
 abbrev pub twoWayText : TwoWaySearcher → Memory → List ℕ
-twoWayText w Long = formText (formOf 76) (numbersOf w 0 0)
-twoWayText w (Short forward backward) = formText (formOf 83 ++ 58 ∷ 35 ∷ 58 ∷ 35 ∷ []) (numbersOf w forward backward)
+twoWayText w Long = beginText w 76 ++ formText splitsForm (splitsNumbers (w .fixed) 0 0)
+twoWayText w (Short forward backward) =
+    beginText w 83 ++ formText (splitsForm ++ 58 ∷ 35 ∷ 58 ∷ 35 ∷ []) (splitsNumbers (w .fixed) forward backward)
 
--- the same of an empty needle's state: ` E:#:#:#:#:#:#`, its numbers, and its text; a flag is 1 where it is set, else 0
-abbrev pub emptyForm : List ℕ
-emptyForm = 32 ∷ 69 ∷ 58 ∷ 35 ∷ 58 ∷ 35 ∷ 58 ∷ 35 ∷ 58 ∷ 35 ∷ 58 ∷ 35 ∷ 58 ∷ 35 ∷ []
-
-abbrev pub emptyNumbers : TwoWaySearcher → ℕ → ℕ → List ℕ
-emptyNumbers w forward backward =
-    w .fixed .«needle_len» ∷ w .fixed .«haystack_len» ∷ w .moving .position ∷ w .moving .end ∷ forward ∷ backward ∷ []
+-- the text of an empty needle's state: `:#:#` behind the beginning; a flag is 1 where it is set, else 0
+abbrev pub flagsText : ℕ → ℕ → List ℕ
+flagsText forward backward = formText (58 ∷ 35 ∷ 58 ∷ 35 ∷ []) (forward ∷ backward ∷ [])
 
 abbrev pub emptyText : TwoWaySearcher → Bool → Bool → List ℕ
-emptyText w forward backward = formText emptyForm (emptyNumbers w (cond forward 1 0) (cond backward 1 0))
+emptyText w forward backward = beginText w 69 ++ flagsText (cond forward 1 0) (cond backward 1 0)
 
 -- the text of a state, by the kind of its walk
 abbrev pub textOf : TwoWaySearcher → Flags → List ℕ

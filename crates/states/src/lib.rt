@@ -1,9 +1,10 @@
-// The state of a walk in a case line, read and printed: STATE of docs/LINES.md.
+// The mode and the state of a walk in a case line, read and printed: MODE and STATE of docs/LINES.md.
 use fields::Number;
 use lines::Cursor;
 use searcher::Fixed;
 use searcher::Kind;
 use searcher::Memory;
+use searcher::Mode;
 use searcher::Moving;
 use searcher::TwoWaySearcher;
 ghost use mathlib.Core.Path.{_≡_};
@@ -11,7 +12,18 @@ ghost use Prim.Native.Nat.{_+_};
 ghost use Rattle.printing.specs.InRoom.{InRoom};
 ghost use lib.ListN.{length};
 ghost use Rattle.printing.specs.Printing.{Prints, formText};
-ghost use Rattle.states.specs.States.{headAt, fieldAt, twoAt, endsAt, memoryAt, splitsAt, flagsAt, restAt, walkOf, stateAt, numbersOf, twoWayText, emptyText, stateText};
+ghost use Rattle.states.specs.States.{headAt, fieldAt, twoAt, modeAt, endsAt, memoryAt, splitsAt, flagsAt, restAt, walkOf, stateAt, letterOf, beginText, splitsNumbers, twoWayText, emptyText, stateText};
+
+// The letters of the two modes.
+const NON_OVERLAPPING: u8 = b'n';
+
+const OVERLAPPING: u8 = b'o';
+
+// A mode that was read, and where reading stands behind it. Where that is nowhere, nothing was read.
+pub struct ReadMode {
+    pub mode: Mode,
+    pub next: Cursor,
+}
 
 // A state that was read, and whether the line ends behind it. Where it does not, what was read is no state.
 pub struct Read {
@@ -43,6 +55,7 @@ struct Ends {
     haystack_len: usize,
     position: usize,
     end: usize,
+    mode: Mode,
     next: Cursor,
 }
 
@@ -106,19 +119,41 @@ fn read_two(line: &[u8], c: Cursor) -> Two
     }
 }
 
-// The four numbers that all forms have.
+// Reads the letter of a mode.
+pub fn read_mode(line: &[u8], c: Cursor) -> ReadMode
+    ensures { λ r. ⌜ r ≡ modeAt (now (line .entry)) c ⌝ }
+{
+    let read = fields::read_either(line, c, NON_OVERLAPPING, OVERLAPPING);
+    let next = read.next;
+    if read.set {
+        return ReadMode {
+            mode: Mode::Overlapping,
+            next,
+        };
+    }
+    ReadMode {
+        mode: Mode::NonOverlapping,
+        next,
+    }
+}
+
+// What all forms have behind their letter: four numbers and the mode.
 fn read_ends(line: &[u8], c: Cursor) -> Ends
     ensures { λ r. ⌜ r ≡ endsAt (now (line .entry)) c ⌝ }
 {
     let lengths = read_two(line, c);
     let at = lengths.next;
     let places = read_two(line, at);
-    let next = places.next;
+    let at = places.next;
+    let read = read_mode(line, lines::skip(line, at, b':'));
+    let mode = read.mode;
+    let next = read.next;
     Ends {
         needle_len: lengths.first,
         haystack_len: lengths.second,
         position: places.first,
         end: places.second,
+        mode,
         next,
     }
 }
@@ -205,12 +240,14 @@ fn read_rest(line: &[u8], c: Cursor, letter: Letter) -> Rest
 fn walk_of(ends: Ends, rest: Rest) -> TwoWaySearcher
     ensures { λ r. ⌜ r ≡ walkOf ends rest ⌝ }
 {
+    let mode = ends.mode;
     let memory = rest.memory;
     let kind = rest.kind;
     TwoWaySearcher {
         fixed: Fixed {
             needle_len: ends.needle_len,
             haystack_len: ends.haystack_len,
+            mode,
             crit_pos: rest.crit_pos,
             crit_pos_back: rest.crit_pos_back,
             period: rest.period,
@@ -242,25 +279,51 @@ pub fn read_state(line: &[u8], c: Cursor) -> Read
     }
 }
 
-// Prints a form of a state, with its numbers; a form without memories leaves the last two out.
-fn put_numbers(
-    out: &mut [u8],
-    at: usize,
-    form: &[u8],
-    w: TwoWaySearcher,
-    forward: usize,
-    backward: usize,
-) -> usize
-    ensures { λ r. ⌜ InRoom (now (out .exit)) (at + length (now (form .entry)) + 190) r ⌝ }
-    ensures rule { λ r. ⌜ Prints (now (out .entry)) at (formText (now (form .entry)) (numbersOf w forward backward)) (now (out .exit)) r ⌝ }
+// The letter of a mode.
+fn mode_letter(mode: Mode) -> u8
+    ensures { λ r. ⌜ r ≡ letterOf mode ⌝ }
+{
+    if record::overlaps(mode) {
+        return OVERLAPPING;
+    }
+    NON_OVERLAPPING
+}
+
+// Prints what all forms begin with, behind a space: the letter, four numbers and the mode.
+fn put_begin(out: &mut [u8], at: usize, w: TwoWaySearcher, letter: u8) -> usize
+    ensures { λ r. ⌜ InRoom (now (out .exit)) (at + 88) r ⌝ }
+    ensures rule { λ r. ⌜ Prints (now (out .entry)) at (beginText w letter) (now (out .exit)) r ⌝ }
 {
     let fixed = w.fixed;
     let moving = w.moving;
+    let mode = fixed.mode;
     let row = [
         fixed.needle_len,
         fixed.haystack_len,
         moving.position,
         moving.end,
+    ];
+    // The two letters are put in below.
+    let mut form = *b" L:#:#:#:#:n";
+    form[1] = letter;
+    form[11] = mode_letter(mode);
+    printing::put_form(out, at, &form, &row)
+}
+
+// Prints what a two way state has behind that, by its form: the splits, the period and the set, and behind them the memories, which a
+// form without marks for them leaves out.
+fn put_splits(
+    out: &mut [u8],
+    at: usize,
+    form: &[u8],
+    fixed: Fixed,
+    forward: usize,
+    backward: usize,
+) -> usize
+    ensures { λ r. ⌜ InRoom (now (out .exit)) (at + length (now (form .entry)) + 114) r ⌝ }
+    ensures rule { λ r. ⌜ Prints (now (out .entry)) at (formText (now (form .entry)) (splitsNumbers fixed forward backward)) (now (out .exit)) r ⌝ }
+{
+    let row = [
         fixed.crit_pos,
         fixed.crit_pos_back,
         fixed.period,
@@ -271,39 +334,36 @@ fn put_numbers(
     printing::put_form(out, at, form, &row)
 }
 
-// The same by the memory, and of an empty needle's state with its flags.
+// Prints the state of a two way walk, by its memory, and that of an empty needle, with its flags.
 fn put_two_way(out: &mut [u8], at: usize, w: TwoWaySearcher, memory: Memory) -> usize
-    ensures { λ r. ⌜ InRoom (now (out .exit)) (at + 212) r ⌝ }
+    ensures { λ r. ⌜ InRoom (now (out .exit)) (at + 214) r ⌝ }
     ensures rule { λ r. ⌜ Prints (now (out .entry)) at (twoWayText w memory) (now (out .exit)) r ⌝ }
 {
+    let fixed = w.fixed;
     match memory {
-        Memory::Long => put_numbers(out, at, b" L:#:#:#:#:#:#:#:%", w, 0, 0),
+        Memory::Long => {
+            let at = put_begin(out, at, w, b'L');
+            put_splits(out, at, b":#:#:#:%", fixed, 0, 0)
+        }
         Memory::Short { forward, backward } => {
-            put_numbers(out, at, b" S:#:#:#:#:#:#:#:%:#:#", w, forward, backward)
+            let at = put_begin(out, at, w, b'S');
+            put_splits(out, at, b":#:#:#:%:#:#", fixed, forward, backward)
         }
     }
 }
 
 fn put_empty(out: &mut [u8], at: usize, w: TwoWaySearcher, forward: bool, backward: bool) -> usize
-    ensures { λ r. ⌜ InRoom (now (out .exit)) (at + 212) r ⌝ }
+    ensures { λ r. ⌜ InRoom (now (out .exit)) (at + 214) r ⌝ }
     ensures rule { λ r. ⌜ Prints (now (out .entry)) at (emptyText w forward backward) (now (out .exit)) r ⌝ }
 {
-    let fixed = w.fixed;
-    let moving = w.moving;
-    let row = [
-        fixed.needle_len,
-        fixed.haystack_len,
-        moving.position,
-        moving.end,
-        forward as usize,
-        backward as usize,
-    ];
-    printing::put_form(out, at, b" E:#:#:#:#:#:#", &row)
+    let row = [forward as usize, backward as usize];
+    let at = put_begin(out, at, w, b'E');
+    printing::put_form(out, at, b":#:#", &row)
 }
 
 // Prints a state behind a space.
 pub fn put_state(out: &mut [u8], at: usize, w: TwoWaySearcher) -> usize
-    ensures { λ r. ⌜ InRoom (now (out .exit)) (at + 212) r ⌝ }
+    ensures { λ r. ⌜ InRoom (now (out .exit)) (at + 214) r ⌝ }
     ensures rule { λ r. ⌜ Prints (now (out .entry)) at (stateText w) (now (out .exit)) r ⌝ }
 {
     let moving = w.moving;

@@ -13,6 +13,7 @@ use Rattle.limits.specs.declared.Check.{Check}
 use Rattle.limits.proofs.Checks.{lengths-pass}
 use Rattle.scan.proofs.Laws.{scan-few}
 use Rattle.windows.specs.Bounds.{Bounded}
+use Rattle.record.specs.declared.Mode.the-variants.{NonOverlapping}
 use Rattle.searcher.specs.Walk.{newRule}
 use Rattle.demands.specs.Allowed.{Allowed}
 use Rattle.demands.specs.Reached.{Call, called, after}
@@ -28,10 +29,10 @@ module _ (text pattern : List ℕ) where
 
   -- one next match from preparing on
   walk-bounded : (backward : Bool) → Allowed pattern text
-      → let r = matchOf backward pattern text (newRule pattern (length text) .walk) in Bounded (length pattern) (length text) (r .counts .comparisons) (r .counts .tests)
+      → let r = matchOf backward pattern text (newRule pattern (length text) NonOverlapping .walk) in Bounded (length pattern) (length text) (r .counts .comparisons) (r .counts .tests)
   unfolding called after
-  walk-bounded true ok = rw (zero-add, zero-add) at (demand-3 pattern text ok (Call.next-match-back ∷ []) .walking .backward)
-  walk-bounded false ok = rw (zero-add, zero-add) at (demand-3 pattern text ok (Call.next-match ∷ []) .walking .forward)
+  walk-bounded true ok = rw (zero-add, zero-add) at (demand-3 pattern text NonOverlapping ok (Call.next-match-back ∷ []) .walking .backward)
+  walk-bounded false ok = rw (zero-add, zero-add) at (demand-3 pattern text NonOverlapping ok (Call.next-match ∷ []) .walking .forward)
 
   pub searched-bounded : (backward : Bool) → SearchBounded text pattern (searched backward text pattern .counts)
   searched-bounded backward = go (lengths (length text) (length pattern)) refl
@@ -54,6 +55,6 @@ module _ (text pattern : List ℕ) where
               | no l ↦
                   let ok : Allowed pattern text = record { within = lengths-pass (length text) (length pattern) e refl } in
                   bounded (search-longer backward text pattern e refl s l refl refl refl)
-                  (record { walking = walk-bounded backward ok; preparing = demand-3 pattern text ok [] .preparing })
+                  (record { walking = walk-bounded backward ok; preparing = demand-3 pattern text NonOverlapping ok [] .preparing })
             ]
           ]

@@ -15,6 +15,7 @@ use Rattle.limits.specs.declared.Refusal.{Refusal}
 use Rattle.limits.proofs.Said.{by-way-back, refusalOf, refusal-again}
 use Rattle.scan.specs.Scanned.{placeOf, ScanTold}
 use Rattle.scan.specs.declared.Found.{Found}
+use Rattle.record.specs.declared.Mode.the-variants.{NonOverlapping}
 use Rattle.searcher.specs.Walk.{matchSaid, CallTold, newRule}
 use Rattle.searcher.specs.declared.NextMatch.{NextMatch}
 use Rattle.twoway.specs.declared.Position.{Position}
@@ -58,7 +59,7 @@ module _ (backward : Bool) (text pattern : List ℕ) {c : Check} {r : SearchTold
       unfolding searched
       search-one o es q = q ∙ rw (es, ← checked, pass, ne-eqb _ _ some-letters, eq-eqb _ _ o)
 
-      pub search-longer : {n : CallTold (Unit {0})} {m : CallTold (Option (ℕ × ℕ))} → (length pattern ≡ 1 → ⊥) → n ≡ newRule pattern (length text) → m ≡ matchOf backward pattern text (n .walk)
+      pub search-longer : {n : CallTold (Unit {0})} {m : CallTold (Option (ℕ × ℕ))} → (length pattern ≡ 1 → ⊥) → n ≡ newRule pattern (length text) NonOverlapping → m ≡ matchOf backward pattern text (n .walk)
           → r ≡ byWalk (n .counts .preparing) m → r ≡ searched backward text pattern
       unfolding searched
       search-longer o en em q = q ∙ rw (em, en, ← checked, pass, ne-eqb _ _ some-letters, ne-eqb _ _ o)

@@ -17,6 +17,7 @@ use Rattle.limits.specs.declared.Check.{Check}
 use Rattle.limits.proofs.Checks.{lengths-pass, lengths-refuse}
 use Rattle.scan.specs.Scanned.{fromFront, fromBack}
 use Rattle.scan.proofs.Laws.{front-means, back-means}
+use Rattle.record.specs.declared.Mode.the-variants.{NonOverlapping}
 use Rattle.searcher.specs.Walk.{newRule}
 use Rattle.demands.specs.Means.{AnswersLeast, AnswersGreatest}
 use Rattle.demands.proofs.Turns.{stands}
@@ -32,7 +33,7 @@ module _ (backward : Bool) (text pattern : List ℕ) (Finds : Option ℕ → Typ
     (refuses : (number : ℕ) → Answers (refused number) → ⊥)
     (at-empty : length pattern ≡ 0 → Finds (some (emptyPlace backward (length text))))
     (by-scan : length pattern ≡ 1 → Finds (scanOf backward (getD pattern 0 0) text .place))
-    (by-walk : Within (length text) (length pattern) → Answers (matchOf backward pattern text (newRule pattern (length text) .walk) .answer)) where
+    (by-walk : Within (length text) (length pattern) → Answers (matchOf backward pattern text (newRule pattern (length text) NonOverlapping .walk) .answer)) where
   meant : {r : SearchTold} → r ≡ searched backward text pattern → Meant Finds text pattern (r .position) → Meant Finds text pattern (searched backward text pattern .position)
   meant e m = subst (λ (r : SearchTold). Meant Finds text pattern (r .position)) e m
 
@@ -52,7 +53,7 @@ module _ (backward : Bool) (text pattern : List ℕ) (Finds : Option ℕ → Typ
             | yes z ↦ meant (search-empty backward text pattern e refl z refl refl) (w, at-empty z)
             | no s ↦ elim (ℕ-discrete (length pattern) 1) [
               | yes o ↦ meant (search-one backward text pattern e refl s o refl refl) (w, by-scan o)
-              | no l ↦ meant (search-longer backward text pattern e refl s l refl refl refl) (of-match-meant w (matchOf backward pattern text (newRule pattern (length text) .walk) .answer) (by-walk w))
+              | no l ↦ meant (search-longer backward text pattern e refl s l refl refl refl) (of-match-meant w (matchOf backward pattern text (newRule pattern (length text) NonOverlapping .walk) .answer) (by-walk w))
             ]
           ]
 
@@ -71,14 +72,14 @@ module _ (text pattern : List ℕ) where
       searched-means false text pattern (FindsLeast Stands) (AnswersLeast Stands (length pattern)) (λ k e m. m .0) (λ m. m) (λ number m. m)
       (λ e. record { holds = stands (front pattern) (front text) e 0 (omega arith); none-before = λ j h o. absurd (omega arith) })
       (λ e. subst (λ (p : List ℕ). FindsLeast (Occurs (front p) (front text)) (fromFront (getD pattern 0 0) text .place)) (one-letter pattern e) (front-means (getD pattern 0 0) text))
-      (λ w. find-least pattern text (record { within = w }))
+      (λ w. find-least pattern text NonOverlapping (record { within = w }))
 
   rfind-means : Meant (FindsGreatest Stands) text pattern (rfindRule text pattern .position)
   rfind-means =
       searched-means true text pattern (FindsGreatest Stands) (AnswersGreatest Stands (length pattern)) (λ k e m. m .0) (λ m. m) (λ number m. m)
       (λ e. record { holds = stands (front pattern) (front text) e (length text) (omega arith); none-after = λ j h o. let f = o .fits in absurd (omega arith) })
       (λ e. subst (λ (p : List ℕ). FindsGreatest (Occurs (front p) (front text)) (fromBack (getD pattern 0 0) text .place)) (one-letter pattern e) (back-means (getD pattern 0 0) text))
-      (λ w. rfind-greatest pattern text (record { within = w }))
+      (λ w. rfind-greatest pattern text NonOverlapping (record { within = w }))
 
   -- what each return has to show, from the rule's answer alone
   module _ {r : SearchTold} where

@@ -12,6 +12,7 @@ use Rattle.limits.specs.Said.{Said, refused, given}
 use Rattle.limits.specs.declared.Check.{Check}
 use Rattle.scan.specs.Scanned.{ScanTold, fromFront, fromBack}
 use Rattle.record.specs.declared.Counts.{Counts}
+use Rattle.record.specs.declared.Mode.the-variants.{NonOverlapping}
 use Rattle.searcher.specs.Walk.{CallTold, newRule, nextMatchRule, nextMatchBackRule}
 use Rattle.searcher.specs.declared.TwoWaySearcher.{TwoWaySearcher}
 use Rattle.twoway.specs.declared.Position.{Position}
@@ -67,7 +68,7 @@ orTold (Check.Refuse why) otherwise = told (refused (numberOf why)) 0 0 0
 -- Checks 1 and 2; then an empty pattern, one byte, and longer ones.
 unfoldable pub searched : Bool → List ℕ → List ℕ → SearchTold
 searched backward text pattern =
-    let p = newRule pattern (length text) in
+    let p = newRule pattern (length text) NonOverlapping in
     let longer = byWalk (p .counts .preparing) (matchOf backward pattern text (p .walk)) in
     orTold (lengths (length text) (length pattern))
     (cond (eqb (length pattern) 0)

@@ -5,6 +5,7 @@ use scan::Found;
 use scan::Scan;
 use searcher::Counts;
 use searcher::Matched;
+use searcher::Mode;
 use searcher::NextMatch;
 use searcher::TwoWaySearcher;
 ghost use mathlib.Core.Path.{_≡_};
@@ -97,7 +98,7 @@ pub fn find_bytes(text: &[u8], pattern: &[u8]) -> Answer
     if pattern.len() == 1 {
         return by_scan(scan::memchr(pattern[0], text));
     }
-    let p = TwoWaySearcher::new(pattern, text.len());
+    let p = TwoWaySearcher::new(pattern, text.len(), Mode::NonOverlapping);
     let walk = p.walk;
     by_walk(p.counts.preparing, walk.next_match(text, pattern))
 }
@@ -118,7 +119,7 @@ pub fn rfind_bytes(text: &[u8], pattern: &[u8]) -> Answer
     if pattern.len() == 1 {
         return by_scan(scan::memrchr(pattern[0], text));
     }
-    let p = TwoWaySearcher::new(pattern, text.len());
+    let p = TwoWaySearcher::new(pattern, text.len(), Mode::NonOverlapping);
     let walk = p.walk;
     by_walk(p.counts.preparing, walk.next_match_back(text, pattern))
 }

@@ -3,6 +3,7 @@ use crate::front::Front;
 use crate::name;
 use crate::reply::Reply;
 use searcher::Matched;
+use searcher::Mode;
 use searcher::NextMatch;
 use searcher::Step;
 use searcher::Stepped;
@@ -17,7 +18,7 @@ pub(crate) struct Called {
 
 // The record beside an answer that has none: what a refused preparation hands out, here one for a haystack that is too long.
 pub(crate) fn none() -> TwoWaySearcher {
-    let refused = TwoWaySearcher::new(&[], limits::HAYSTACK_BOUND + 1);
+    let refused = TwoWaySearcher::new(&[], limits::HAYSTACK_BOUND + 1, Mode::NonOverlapping);
     refused.walk
 }
 

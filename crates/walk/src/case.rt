@@ -6,6 +6,7 @@ use crate::name;
 use crate::reply;
 use crate::walk;
 use lines::Cursor;
+use searcher::Mode;
 ghost use Prim.Native.Nat.{_≤_};
 ghost use lib.ListN.{length};
 ghost use Rattle.printing.specs.InRoom.{InRoom};
@@ -14,10 +15,10 @@ ghost use Rattle.printing.specs.InRoom.{InRoom};
 const WORD_BYTES: usize = 4096;
 
 // The most bytes that a line may have: those of a walk over two such words, with the longest script. None that is longer is well formed.
-pub(crate) const LINE_BYTES: usize = 16647;
+pub(crate) const LINE_BYTES: usize = 16649;
 
 // An answer has fewer bytes with its space: a walk with the longest script, if each call of it had three counts, and each number 20 digits.
-pub(crate) const ANSWER_BYTES: usize = 28997;
+pub(crate) const ANSWER_BYTES: usize = 28999;
 
 // The lengths of a line's words, and where reading stands behind them.
 struct Words {
@@ -48,13 +49,21 @@ fn read_words(line: &[u8], c: Cursor, kind: u8, first: &mut [u8], second: &mut [
     }
 }
 
-// What is answered before the calls of a script. Reading stands at `c`, or a script starts there.
-fn solve(line: &[u8], c: Cursor, kind: u8, script: &[u8], needle: &[u8], haystack: &[u8]) -> Called
+// What is answered before the calls of a script. Reading stands at `c`; `mode` and `script` are those of a walk.
+fn solve(
+    line: &[u8],
+    c: Cursor,
+    kind: u8,
+    mode: Mode,
+    script: &[u8],
+    needle: &[u8],
+    haystack: &[u8],
+) -> Called
     ensures { λ r. ⌜ r .reply .numbers ≤ 3 ⌝ }
 {
     match kind {
         name::PREPARE => walk::prepare_line(line, c, needle),
-        name::WALK => walk::walk_start(script, needle, haystack),
+        name::WALK => walk::walk_start(mode, script, needle, haystack),
         name::STEP | name::STEP_BACK | name::NEXT | name::NEXT_BACK => {
             walk::call_line(line, c, kind, needle, haystack)
         }
@@ -74,11 +83,14 @@ fn put_answer(
     haystack: &[u8],
     out: &mut [u8],
 ) -> usize
-    ensures { λ r. ⌜ InRoom (now (out .exit)) 28996 r ⌝ }
+    ensures { λ r. ⌜ InRoom (now (out .exit)) 28998 r ⌝ }
 {
-    // Used of a walk only.
-    let from = walk::script_start(line, c);
-    let called = solve(line, c, kind, &line[from..], needle, haystack);
+    // The mode of a walk, and where its script starts. Used of a walk only.
+    let read = states::read_mode(line, lines::skip(line, c, b' '));
+    let mode = read.mode;
+    let next = read.next;
+    let from = walk::script_start(line, next);
+    let called = solve(line, c, kind, mode, &line[from..], needle, haystack);
     if name::has_state(kind) {
         return walk::put_stated(out, called);
     }
@@ -94,7 +106,7 @@ fn put_answer(
 
 // Prints the answer to a line, and gives its length. What is malformed or too long is answered by `bad line`.
 pub(crate) fn answer(line: &[u8], out: &mut [u8]) -> usize
-    ensures { λ r. ⌜ InRoom (now (out .exit)) 28996 r ⌝ }
+    ensures { λ r. ⌜ InRoom (now (out .exit)) 28998 r ⌝ }
 {
     let mut first = [0u8; WORD_BYTES];
     let mut second = [0u8; WORD_BYTES];

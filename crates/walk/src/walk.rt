@@ -6,6 +6,7 @@ use crate::front::put_front;
 use crate::reply;
 use crate::reply::Reply;
 use lines::Cursor;
+use searcher::Mode;
 use searcher::Preparation;
 use searcher::Prepared;
 use searcher::TwoWaySearcher;
@@ -64,33 +65,36 @@ fn prepared(p: Prepared) -> Called
     }
 }
 
-// prep NEEDLE LENGTH
+// prep NEEDLE LENGTH MODE
 pub(crate) fn prepare_line(line: &[u8], c: Cursor, needle: &[u8]) -> Called
     ensures { λ r. ⌜ r .reply .numbers ≤ 3 ⌝ }
 {
     let n = fields::read_field(line, c, b' ');
     let next = n.next;
-    let p = TwoWaySearcher::new(needle, n.value);
-    if !lines::is_end(line, next) {
+    let read = states::read_mode(line, lines::skip(line, next, b' '));
+    let mode = read.mode;
+    let end = read.next;
+    let p = TwoWaySearcher::new(needle, n.value, mode);
+    if !lines::is_end(line, end) {
         return alone(Front::Bad, p.walk);
     }
     prepared(p)
 }
 
-// walk NEEDLE HAYSTACK SCRIPT, before the calls of its script
-pub(crate) fn walk_start(script: &[u8], needle: &[u8], haystack: &[u8]) -> Called
+// walk NEEDLE HAYSTACK MODE SCRIPT, before the calls of its script
+pub(crate) fn walk_start(mode: Mode, script: &[u8], needle: &[u8], haystack: &[u8]) -> Called
     ensures { λ r. ⌜ r .reply .numbers ≤ 3 ⌝ }
 {
     if script.len() == 0 {
         return alone(Front::Bad, call::none());
     }
-    prepared(TwoWaySearcher::new(needle, haystack.len()))
+    prepared(TwoWaySearcher::new(needle, haystack.len(), mode))
 }
 
 // Prints a front, and, where there are counts, a state and the counts.
 pub(crate) fn put_stated(out: &mut [u8], called: Called) -> usize
     requires { ⌜ called .reply .numbers ≤ 3 ⌝ }
-    ensures { λ n. ⌜ InRoom (now (out .exit)) 324 n ⌝ }
+    ensures { λ n. ⌜ InRoom (now (out .exit)) 326 n ⌝ }
 {
     let r = called.reply;
     let front = r.front;
@@ -113,7 +117,7 @@ pub(crate) fn put_calls(
     haystack: &[u8],
     needle: &[u8],
 ) -> usize
-    ensures { λ r. ⌜ InRoom (now (out .exit)) (start + 112 * length (now (script .entry)) + 212) r ⌝ }
+    ensures { λ r. ⌜ InRoom (now (out .exit)) (start + 112 * length (now (script .entry)) + 214) r ⌝ }
 {
     let mut walk = prepared;
     let mut at = start;

@@ -120,10 +120,6 @@ module _ {has : ℕ → Bool} {v : Plan} {x : Word} (g : Guides has v x) (h : Wo
             meant = (λ j o. let lo = o .0 in let fits = o .1 .fits in absurd (omega arith), refl);
           }
 
--- a match that moves by the needle's size: the walk lists what does not overlap
-pub gap-whole : {v : Plan} {x : Word} {gap : ℕ} → v .shift ≡ gap → 0 < gap → Gap v x gap
-gap-whole e pos = record { positive = pos; within = omega arith; between = λ h k j o lo hi p. absurd (omega arith) }
-
 -- What follows from the meaning of a search, once its end is known.
 module _ {v : Plan} {x h : Word} {stepping : Bool} {old a : ℕ} {r : Searched} (m : SearchMeans v x h stepping old a r) where
   pub meant-at : {t : Stop} → r .stop ≡ t → Meant v x h stepping old a (r .cursor .at) t

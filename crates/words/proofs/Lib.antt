@@ -3,3 +3,4 @@ pub mod Decided
 pub mod Mirror
 pub mod Order
 pub mod Critical
+pub mod Listed

@@ -11,8 +11,8 @@ sub-larger c = search needs
 larger-requires : tie.Need-larger-requires
 larger-requires c κs = search needs
 
-add-t9 : tie.Need-add-t9
-add-t9 c = search needs
+add-period : tie.Need-add-period
+add-period c = search needs
 
 byteset-create-requires : tie.Need-byteset-create-requires
 byteset-create-requires c κs = search needs
@@ -26,4 +26,4 @@ returns c = search (needs, long-is)
 pub long-spec : {M : Type 1} → statement M
 long-spec =
     tie.close
-    (tie.spec sub-larger larger-requires add-t9 byteset-create-requires prepared-requires returns)
+    (tie.spec sub-larger larger-requires add-period byteset-create-requires prepared-requires returns)

@@ -15,7 +15,7 @@ refused-requires : tie.Need-refused-requires
 refused-requires c κs = search needs
 
 returns : tie.Need-returns
-returns c = prepare-settled _ _ (search (needs, prepare-refuses))
+returns c = prepare-settled _ _ _ (search (needs, prepare-refuses))
 
 enum-told : tie.Need-enum-told
 enum-told c = search needs
@@ -24,13 +24,13 @@ empty-requires : tie.Need-empty-requires
 empty-requires c κs = search needs
 
 returns-2 : tie.Need-returns-2
-returns-2 c = prepare-settled _ _ (search (needs, prepare-empty))
+returns-2 c = prepare-settled _ _ _ (search (needs, prepare-empty))
 
 five-steps-requires : tie.Need-five-steps-requires
 five-steps-requires c κs = search (needs, passed-some, passed-small)
 
 returns-3 : tie.Need-returns-3
-returns-3 c = prepare-settled _ _ (search (needs, prepare-steps))
+returns-3 c = prepare-settled _ _ _ (search (needs, prepare-steps))
 
 pub prepare-spec : {M : Type 1} → statement M
 prepare-spec =

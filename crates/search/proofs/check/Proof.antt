@@ -1,6 +1,6 @@
 -- `search::check` meets its contract.
 -- Assumes nothing.
-use Rattle.search.proofs.Calls.{check-lengths, check-passed, check-state}
+use Rattle.search.proofs.Calls.{check-lengths, check-state, check-last}
 use borrow.Author.Needs.{needs}
 use Rattle.search.proofs.check.Statement.{statement}
 use Rattle.search.proofs.check.Tie as tie
@@ -20,8 +20,11 @@ enum-told c = search needs
 fits-requires : tie.Need-fits-requires
 fits-requires c κs = search needs
 
+check-step-requires : tie.Need-check-step-requires
+check-step-requires c κs = search needs
+
 returns-2 : tie.Need-returns-2
-returns-2 c = search (needs, check-passed)
+returns-2 c = search (needs, check-last)
 
 returns-3 : tie.Need-returns-3
 returns-3 c = search (needs, check-state)
@@ -35,5 +38,6 @@ check-spec =
     returns
     enum-told
     fits-requires
+    check-step-requires
     returns-2
     returns-3)

@@ -5,11 +5,14 @@ use Rattle.states.proofs.Laws.{prints-flags}
 use Rattle.states.proofs.put_empty.Statement.{statement}
 use Rattle.states.proofs.put_empty.Tie as tie
 
+cast-t9 : tie.Need-cast-t9
+cast-t9 c = search needs
+
 cast-t10 : tie.Need-cast-t10
 cast-t10 c = search needs
 
-cast-t11 : tie.Need-cast-t11
-cast-t11 c = search needs
+put-begin-requires : tie.Need-put-begin-requires
+put-begin-requires c κs = search needs
 
 slice-aggregate-put-form : tie.Need-slice-aggregate-put-form
 slice-aggregate-put-form c = search needs
@@ -30,8 +33,9 @@ pub put-empty-spec : {M : Type 1} → statement M
 put-empty-spec =
     tie.close
     (tie.spec
+    cast-t9
     cast-t10
-    cast-t11
+    put-begin-requires
     slice-aggregate-put-form
     slice-aggregate-put-form-2
     put-form-requires

@@ -8,20 +8,26 @@ use Rattle.states.proofs.put_two_way.Tie as tie
 enum-told : tie.Need-enum-told
 enum-told c = search needs
 
-slice-aggregate-put-numbers : tie.Need-slice-aggregate-put-numbers
-slice-aggregate-put-numbers c = search needs
+put-begin-requires : tie.Need-put-begin-requires
+put-begin-requires c κs = search needs
 
-put-numbers-requires : tie.Need-put-numbers-requires
-put-numbers-requires c κs = search needs
+slice-aggregate-put-splits : tie.Need-slice-aggregate-put-splits
+slice-aggregate-put-splits c = search needs
+
+put-splits-requires : tie.Need-put-splits-requires
+put-splits-requires c κs = search needs
 
 enum-known-memory : tie.Need-enum-known-memory
 enum-known-memory c = search needs
 
-slice-aggregate-put-numbers-2 : tie.Need-slice-aggregate-put-numbers-2
-slice-aggregate-put-numbers-2 c = search needs
+put-begin-requires-2 : tie.Need-put-begin-requires-2
+put-begin-requires-2 c κs = search needs
 
-put-numbers-requires-2 : tie.Need-put-numbers-requires-2
-put-numbers-requires-2 c κs = search needs
+slice-aggregate-put-splits-2 : tie.Need-slice-aggregate-put-splits-2
+slice-aggregate-put-splits-2 c = search needs
+
+put-splits-requires-2 : tie.Need-put-splits-requires-2
+put-splits-requires-2 c κs = search needs
 
 same-length : tie.Need-same-length
 same-length c = search needs
@@ -40,11 +46,13 @@ put-two-way-spec =
     tie.close
     (tie.spec
     enum-told
-    slice-aggregate-put-numbers
-    put-numbers-requires
+    put-begin-requires
+    slice-aggregate-put-splits
+    put-splits-requires
     enum-known-memory
-    slice-aggregate-put-numbers-2
-    put-numbers-requires-2
+    put-begin-requires-2
+    slice-aggregate-put-splits-2
+    put-splits-requires-2
     same-length
     returns
     same-length-2
