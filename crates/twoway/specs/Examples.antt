@@ -141,6 +141,7 @@ table =
     ∷ record { computed = made (matches Overlapping 4 aa aaaa) 0 0 ++ made (matches-back Overlapping 4 aa aaaa) 0 0; stated = 4 ∷ 3 ∷ 4 ∷ 3 ∷ [] }
     -- P8's needle twice, the second on the first's last letter: "Long moves by its stored p"
     ∷ record { computed = answers found (matches Overlapping 3 baabb (98 ∷ 97 ∷ 97 ∷ 98 ∷ baabb)); stated = 1 ∷ 0 ∷ 5 ∷ 1 ∷ 4 ∷ 9 ∷ 3 ∷ [] }
+    ∷ record { computed = answers found (matches-back Overlapping 3 baabb (98 ∷ 97 ∷ 97 ∷ 98 ∷ baabb)); stated = 1 ∷ 4 ∷ 9 ∷ 1 ∷ 0 ∷ 5 ∷ 3 ∷ [] }
     -- "A step call in this mode is refused with new number 5"
     ∷ record { computed = step (nextRule aa aaaa (newRule aa 4 Overlapping .walk) .answer) ++ step (nextBackRule aa aaaa (newRule aa 4 Overlapping .walk) .answer); stated = 4 ∷ 5 ∷ 4 ∷ 5 ∷ [] }
     -- "An empty needle gives the same list in both modes."
