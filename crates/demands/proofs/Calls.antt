@@ -72,9 +72,11 @@ pub passes : (needle haystack : List ℕ) → Allowed needle haystack → (f : F
 unfolding refusal fitting
 passes needle haystack ok f s fit stepping = rw (within-passes (length haystack) (length needle) (ok .within), fit)
 
--- it refuses a step where matches may overlap
-pub by-check : (P : Walked → Type 0) (stepping : Bool) (f : Fixed) (s : Moving) {otherwise : Walked}
-    → ((stepping && overlaps (f .mode)) ≡ true → P (free (Ending.Refused StepOverlapping) s))
+-- it refuses a step where matches may overlap: what has to be shown of that
+abbrev pub StepRefused : (Walked → Type 0) → Bool → Fixed → Moving → Type 0
+StepRefused P stepping f s = (stepping && overlaps (f .mode)) ≡ true → P (free (Ending.Refused StepOverlapping) s)
+
+pub by-check : (P : Walked → Type 0) (stepping : Bool) (f : Fixed) (s : Moving) {otherwise : Walked} → StepRefused P stepping f s
     → ((stepping && overlaps (f .mode)) ≡ false → P otherwise)
     → P (orWalked (stepCheck stepping (f .mode)) s otherwise)
 by-check P stepping f s {otherwise} refuses passes-it = go (stepping && overlaps (f .mode)) refl
@@ -134,11 +136,7 @@ module _ (needle haystack : List ℕ) (ok : Allowed needle haystack) (f : Fixed)
   -- ---- the calls
 
   module _ (P : Walked → Type 0) (stepping : Bool) where
-    -- a step that is refused
-    abbrev Overlapping : Type 0
-    Overlapping = (stepping && overlaps (f .mode)) ≡ true → P (free (Ending.Refused StepOverlapping) s)
-
-    pub forward-cases : Overlapping → (stepping ≡ true → s .position ≡ n → P (free Ending.Done s))
+    pub forward-cases : StepRefused P stepping f s → (stepping ≡ true → s .position ≡ n → P (free Ending.Done s))
         → ((stepping && overlaps (f .mode)) ≡ false → (stepping ≡ true → s .position ≡ n → ⊥) → P (walkedForward m s (forward stepping needle haystack f s)))
         → P (forwardCall stepping needle haystack f s)
     unfolding forwardCall
@@ -147,7 +145,7 @@ module _ (needle haystack : List ℕ) (ok : Allowed needle haystack) (f : Fixed)
         (by-check P stepping f s refuses
         (λ e. subst (λ kind. P (forwardBy (flagsOf kind) stepping needle haystack f s)) (sym two-way) (by-done P stepping (s .position) n still (more e))))
 
-    pub backward-cases : Overlapping → (stepping ≡ true → s .end ≡ 0 → P (free Ending.Done s))
+    pub backward-cases : StepRefused P stepping f s → (stepping ≡ true → s .end ≡ 0 → P (free Ending.Done s))
         → ((stepping && overlaps (f .mode)) ≡ false → (stepping ≡ true → s .end ≡ 0 → ⊥) → P (walkedBackward m s (backward stepping needle haystack f s)))
         → P (backwardCall stepping needle haystack f s)
     unfolding backwardCall

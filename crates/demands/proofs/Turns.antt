@@ -5,21 +5,20 @@
 -- Assumes nothing.
 use Prim.Native.Nat.{ℕ, _+_, _-_, _<_, _≤_}
 use mathlib.Core.Path.{_≡_, refl, sym, subst}
-use mathlib.Core.Bool.{Bool, true, false, _&&_}
+use mathlib.Core.Bool.{Bool, true, false}
 use mathlib.Core.List.{List, [], _∷_, _++_}
 use native.Mathlib.Omega.{arith}
 use lib.ListN.{length}
 use Rattle.words.specs.Word.{Word, front}
 use Rattle.words.specs.Choice.{Least, Greatest, None}
 use Rattle.words.specs.Occurs.{Occurs, OccursFrom, OccursBelow, Leftmost, Rightmost}
-use Rattle.limits.specs.declared.Refusal.the-variants.{StepOverlapping}
 use Rattle.empty.specs.declared.Turned.{Turned}
 use Rattle.empty.proofs.Laws.{by-turn}
 use Rattle.record.specs.declared.Kind.the-variants.{Empty}
 use Rattle.record.specs.declared.Fixed.{Fixed}
 use Rattle.record.specs.declared.Moving.{Moving}
 use Rattle.record.specs.Fits.{fits}
-use Rattle.record.specs.Kinds.{flagsOf, overlaps}
+use Rattle.record.specs.Kinds.{flagsOf}
 use Rattle.record.proofs.Fitting.{StateFits, KindFits, state, decides-fits}
 use Rattle.search.specs.declared.Ending.{Ending}
 use Rattle.search.specs.declared.Walked.{Walked}
@@ -28,7 +27,7 @@ use Rattle.searcher.specs.Walk.{stepAnswer, matchAnswer}
 use Rattle.demands.specs.Open.{openFrom, openBelow}
 use Rattle.demands.specs.Allowed.{Allowed}
 use Rattle.demands.specs.Reached.{stepMatches, nextMatches}
-use Rattle.demands.proofs.Calls.{passes, by-check}
+use Rattle.demands.proofs.Calls.{StepRefused, passes, by-check}
 
 -- ---- an empty word stands everywhere
 
@@ -116,11 +115,7 @@ module _ (needle haystack : List ℕ) (ok : Allowed needle haystack) (f : Fixed)
     still : {e : Ending} → P (free e s) → P (free e (record { position = s .position; end = s .end; memory = s .memory; kind = Empty ahead behind }))
     still {e} p = subst (λ kind. P (free e (record { position = s .position; end = s .end; memory = s .memory; kind = kind }))) empty p
 
-    -- a step that is refused
-    abbrev Overlapping : Type 0
-    Overlapping = (stepping && overlaps (f .mode)) ≡ true → P (free (Ending.Refused StepOverlapping) s)
-
-    pub forward-turns : Overlapping → (ahead ≡ true → P (free (Ending.Match (s .position) (s .position)) (stood (s .position) false)))
+    pub forward-turns : StepRefused P stepping f s → (ahead ≡ true → P (free (Ending.Match (s .position) (s .position)) (stood (s .position) false)))
         → (ahead ≡ false → s .position ≡ n → P (free Ending.Done s))
         → (ahead ≡ false → s .position < n → stepping ≡ true → P (free Ending.Passed (stood (s .position + 1) true)))
         → (ahead ≡ false → s .position < n → stepping ≡ false → P (free (Ending.Match (s .position + 1) (s .position + 1)) (stood (s .position + 1) false)))
@@ -141,7 +136,7 @@ module _ (needle haystack : List ℕ) (ok : Allowed needle haystack) (f : Fixed)
         (λ e more t. rw (there more) (passed e (omega arith) t))
         (λ e more t. rw (there more) (next e (omega arith) t)))))
 
-    pub backward-turns : Overlapping → (behind ≡ true → P (free (Ending.Match (s .end) (s .end)) (stood-back (s .end) false)))
+    pub backward-turns : StepRefused P stepping f s → (behind ≡ true → P (free (Ending.Match (s .end) (s .end)) (stood-back (s .end) false)))
         → (behind ≡ false → s .end ≡ 0 → P (free Ending.Done s))
         → (behind ≡ false → 0 < s .end → stepping ≡ true → P (free Ending.Passed (stood-back (s .end - 1) true)))
         → (behind ≡ false → 0 < s .end → stepping ≡ false → P (free (Ending.Match (s .end - 1) (s .end - 1)) (stood-back (s .end - 1) false)))

@@ -7,6 +7,7 @@ use lib.Dec.{T, eqb}
 use Rattle.words.specs.Word.{front, back, suffix}
 use Rattle.words.specs.Choice.{every, firstFrom}
 use Rattle.words.specs.Occurs.{occursb, nextFrom, leftmost, rightmost}
+use Rattle.words.specs.Listed.{passing, occurrences}
 use Rattle.words.specs.Period.{periodb, smallestPeriod, localRepeatb, localPeriod}
 use Rattle.words.specs.Order.{lessb, maximalb, maximalSuffix}
 
@@ -84,7 +85,10 @@ table =
     -- a walk lists what does not overlap: "aa" in "aaaa", and "a" in "banana"
     ∷ record { computed = forward aa (97 ∷ aaa); stated = 0 ∷ 2 ∷ [] }
     ∷ record { computed = backward (97 ∷ []) banana; stated = 5 ∷ 3 ∷ 1 ∷ [] }
-    -- at a gap of 1 it lists every occurrence: "aa" in "aaaa", and the empty word in "aaa"
+    -- every occurrence, each place tried by itself: "aa" in "aaaa", and the empty word in "aaa"
+    ∷ record { computed = occurrences (front aa) (front (97 ∷ aaa)); stated = 0 ∷ 1 ∷ 2 ∷ [] }
+    ∷ record { computed = occurrences (front []) (front aaa); stated = 0 ∷ 1 ∷ 2 ∷ 3 ∷ [] }
+    -- at a gap of 1 the greedy list has them all: of the same
     ∷ record { computed = forwardBy 1 aa (97 ∷ aaa); stated = 0 ∷ 1 ∷ 2 ∷ [] }
     ∷ record { computed = backwardBy 1 aa (97 ∷ aaa); stated = 2 ∷ 1 ∷ 0 ∷ [] }
     ∷ record { computed = forwardBy 1 [] aaa; stated = 0 ∷ 1 ∷ 2 ∷ 3 ∷ [] }
@@ -104,5 +108,5 @@ all-as-stated [] = true
 all-as-stated (e ∷ es) = same (e .computed) (e .stated) && all-as-stated es
 
 pub examples : T (all-as-stated table)
-unfolding all-as-stated same maximalSuffix maximalb lessb smallestPeriod periodb localPeriod localRepeatb leftmost rightmost nextFrom occursb every firstFrom
+unfolding all-as-stated same passing maximalSuffix maximalb lessb smallestPeriod periodb localPeriod localRepeatb leftmost rightmost nextFrom occursb every firstFrom
 examples = tt

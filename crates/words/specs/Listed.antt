@@ -1,7 +1,11 @@
 -- Lists of numbers that leave nothing out: what it rests on that a walk "lists every occurrence, each once, rising forward and falling backward" (02 [3]).
+-- Beside them the executable form, in which a test stands for the property; proofs/Listed.antt shows that they agree.
 -- Assumes nothing.
-use Prim.Native.Nat.{ℕ, _<_}
+use Prim.Native.Nat.{ℕ, zero, suc, _+_, _<_}
+use mathlib.Core.Bool.{Bool, cond}
 use mathlib.Core.List.{List, [], _∷_}
+use Rattle.words.specs.Word.{Word}
+use Rattle.words.specs.Occurs.{occursb}
 
 -- k stands in the list
 pub data In (k : ℕ) : List ℕ → Type 0 where
@@ -25,3 +29,12 @@ Rising = Lists _<_
 
 abbrev pub Falling : (ℕ → Type 0) → List ℕ → Type 0
 Falling = Lists (λ k j. j < k)
+
+-- of the n numbers from i on, those at which the test f holds, each tried by itself
+unfoldable pub passing : ℕ → ℕ → (ℕ → Bool) → List ℕ
+passing zero i f = []
+passing (suc n) i f = let later = passing n (i + 1) f in cond (f i) (i ∷ later) later
+
+-- every occurrence of x in h, computed
+abbrev pub occurrences : Word → Word → List ℕ
+occurrences x h = passing (h .size + 1) 0 (occursb x h)
