@@ -4,7 +4,7 @@ use crate::compare::Run;
 use crate::failure::Failure;
 use crate::model::{Fault, Model};
 
-const FAULTS: [(Fault, &str); 29] = [
+const FAULTS: [(Fault, &str); 30] = [
     (Fault::DifferenceNotCounted, "the differing comparison is not counted"),
     (Fault::MemoryKeptAfterSkip, "forward memory is kept after a fingerprint skip"),
     (Fault::MemoryKeptAfterRightDifference, "forward memory is kept after a right difference"),
@@ -37,6 +37,7 @@ const FAULTS: [(Fault, &str); 29] = [
     (Fault::StepNotRefused, "a step in overlapping mode is not refused"),
     (Fault::StepRefusedBeforeFit, "refusal 5 is checked before 4"),
     (Fault::CallFlipsMode, "a call changes the mode"),
+    (Fault::IndexZeroLeftOut, "the local period leaves index 0 out"),
 ];
 
 fn small(fault: Fault) -> Result<u64, Failure> {

@@ -7,6 +7,7 @@ use crate::failure::{Failure, Outcome};
 use crate::judge::judge;
 use crate::limits::{NEEDLE_BOUND, SCRIPT_LETTERS, STATE_DOES_NOT_FIT};
 use crate::line;
+use crate::local;
 use crate::meaning;
 use crate::model::{Model, RULES};
 use crate::naive;
@@ -59,6 +60,7 @@ pub struct Size {
     needle: usize,
     haystack: usize,
     state_needle: usize,
+    local: local::Sizes,
     seeded: usize,
     large: usize,
 }
@@ -70,6 +72,7 @@ pub const QUICK_RUN: Size = Size {
     needle: 4,
     haystack: 7,
     state_needle: 2,
+    local: local::SHORT,
     seeded: 1_000,
     large: 5,
 };
@@ -80,6 +83,7 @@ pub const SHORT_RUN: Size = Size {
     needle: 6,
     haystack: 10,
     state_needle: 3,
+    local: local::LONG,
     seeded: 40_000,
     large: 60,
 };
@@ -90,6 +94,7 @@ pub const LONG_RUN: Size = Size {
     needle: 8,
     haystack: 12,
     state_needle: 4,
+    local: local::sizes(14, 8),
     seeded: 2_000_000,
     large: 2_000,
 };
@@ -143,6 +148,7 @@ impl<'a> Run<'a> {
         self.pairs(words::ALIKE.0, words::ALIKE.1)?;
         exhaustive::scans().try_for_each(|case| self.check(case))?;
         self.handed_in(size.state_needle)?;
+        self.local_periods(size.local)?;
         self.told_again()?;
         self.empty_needle()?;
         self.empty_seeded(dice, size.large)?;
@@ -155,6 +161,7 @@ impl<'a> Run<'a> {
         self.pairs((b"ab", 3), (b"abc", 5))?;
         self.pairs((b"ab", 5), (b"ab", 7))?;
         self.empty_needle()?;
+        self.local_periods(local::sizes(4, 3))?;
         self.examples()?;
         self.bounds()
     }
@@ -208,6 +215,20 @@ impl<'a> Run<'a> {
                 }
             }
             self.prepares(&word, 7)?;
+        }
+        Ok(())
+    }
+
+    /// At every split of each word; a case a split.
+    fn local_periods(&mut self, sizes: local::Sizes) -> Outcome {
+        for (letters, longest) in sizes {
+            for word in local::words((letters, longest)) {
+                self.cases += word.len() as u64 + 1;
+                local::check(self.model, letters, &word).map_err(|why| {
+                    let (n, mode) = (word.len(), Mode::NonOverlapping);
+                    Failure::new(Case::Prepare { needle: word.clone(), n, mode }, why)
+                })?;
+            }
         }
         Ok(())
     }

@@ -12,6 +12,7 @@ pub mod judge;
 pub mod limits;
 pub mod line;
 pub mod list;
+pub mod local;
 pub mod meaning;
 pub mod model;
 pub mod naive;

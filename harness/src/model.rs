@@ -1,4 +1,4 @@
-//! Document 01 with the requests [1] and [3] of 02 as a program, written from their text and not
+//! Document 01 with the requests [1], [3] and [4] of 02 as a program, written from their text and not
 //! from the Rust.
 //!
 //! Sentences in quotes are theirs. `Fault` puts one wrong thing into it on purpose, so that
@@ -41,6 +41,7 @@ pub enum Fault {
     StepNotRefused,
     StepRefusedBeforeFit,
     CallFlipsMode,
+    IndexZeroLeftOut,
 }
 
 pub struct Model {
@@ -234,6 +235,17 @@ impl Model {
             }
         }
         Pass { start: i, period: p, rounds }
+    }
+
+    /// "the least positive r with x[i] = x[i+r] for each i from |u|-r to |u|-1 for which" 0 <= i and
+    /// i+r < |x|: "Index 0 counts".
+    pub fn local_period(&self, word: &[u8], split: usize) -> usize {
+        let first = if self.fault == Fault::IndexZeroLeftOut { 1 } else { 0 };
+        let repeats = |r: &usize| {
+            let mut indices = max(first, split.saturating_sub(*r))..split;
+            indices.all(|i| i + r >= word.len() || word[i] == word[i + r])
+        };
+        (1..).find(repeats).expect("nothing is asked of an r that is the word's length or more")
     }
 
     /// The state and the preparing count, for a needle and a length that are not refused.

@@ -1,6 +1,8 @@
 //! The meanings that 01 promises, computed from their definitions, with nothing of the
 //! algorithm in them.
 
+use crate::words;
+
 pub fn reversed(word: &[u8]) -> Vec<u8> {
     word.iter().rev().copied().collect()
 }
@@ -47,6 +49,19 @@ pub fn every(needle: &[u8], haystack: &[u8]) -> Vec<usize> {
 pub fn smallest_period(word: &[u8]) -> usize {
     let m = word.len();
     (1..=m).find(|&r| word[r..] == word[..m - r]).unwrap_or(1)
+}
+
+/// The local period at a split of a word over these letters, as the original's comment has it: the
+/// length of the shortest word w that is not empty and a repetition there. Each w over the letters
+/// is tried.
+pub fn local_period(letters: &[u8], word: &[u8], split: usize) -> usize {
+    let (u, v) = word.split_at(split);
+    // "w is a suffix of u", or "u is a suffix of w"; "w is a prefix of v", or "v is a prefix of w"
+    let repetition =
+        |w: Vec<u8>| (u.ends_with(&w) || w.ends_with(u)) && (v.starts_with(&w) || w.starts_with(v));
+    let mut lengths = 1..;
+    let shortest = lengths.find(|&r| words::all(letters, r).any(repetition));
+    shortest.expect("the word vu is a repetition, and of the empty word every word is")
 }
 
 /// Start and smallest period of the greatest suffix.

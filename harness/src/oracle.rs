@@ -4,6 +4,7 @@
 //!     oracle list                       prints the case lines of the stored list
 //!     oracle compare [--seed S] [--long]    model, Rust and meaning against each other
 //!     oracle break                      shows that wrong models are caught
+//!     oracle defined [--long]           prints what definitions should give, for the prover
 //!     oracle judges                     prints who judges: with the original, or the model alone
 //!     oracle missing                    prints the folders that were not there at the build
 //!
@@ -15,12 +16,13 @@
 //! with status 1.
 
 use harness::compare::Run;
-use harness::{broken, compare, judge, list, program};
+use harness::{broken, compare, judge, list, local, program};
 use std::fmt::Display;
 use std::io::{self, BufRead, Write};
 use std::process::ExitCode;
 
-const USAGE: &str = "oracle answer | list | compare [--seed S] [--long] | break | judges | missing";
+const USAGE: &str = "oracle answer | list | compare [--seed S] [--long] | break | \
+    defined [--long] | judges | missing";
 
 fn main() -> ExitCode {
     let words: Vec<String> = std::env::args().skip(1).collect();
@@ -30,6 +32,8 @@ fn main() -> ExitCode {
         ["list"] => print(list::lines()),
         ["compare", ref options @ ..] => Ok(compare(options)),
         ["break"] => Ok(program::status(broken::all_caught())),
+        ["defined"] => print(local::table(local::SHORT)),
+        ["defined", "--long"] => print(local::table(local::LONG)),
         ["judges"] => print([judge::JUDGES]),
         ["missing"] => print(program::missing()),
         _ => Ok(program::usage(USAGE)),

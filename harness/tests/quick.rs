@@ -9,8 +9,10 @@ use harness::judge;
 use harness::limits::{SCRIPT_LETTERS, WORD_BYTES};
 use harness::line;
 use harness::list;
+use harness::local;
 use harness::meaning;
 use harness::model::{Fault, Model, RULES};
+use harness::naive;
 use harness::program;
 use harness::retold::EmptyNeedle;
 use harness::scripts;
@@ -218,6 +220,23 @@ fn next_match_lists_every_occurrence() {
             assert_eq!(list(Mode::NonOverlapping), list(Mode::Overlapping));
         }
     }
+}
+
+/// "Index 0 counts: the condition is 0 <= i, and the answer for that split is 2."
+#[test]
+fn index_zero_counts() {
+    let left_out = Model { fault: Fault::IndexZeroLeftOut };
+    assert_eq!(RULES.local_period(b"ab", 1), 2);
+    assert_eq!(naive::local_period(b"ab", b"ab", 1), 2);
+    assert_eq!(left_out.local_period(b"ab", 1), 1);
+    let locals = |word: &[u8]| (0..=word.len()).map(|at| RULES.local_period(word, at)).collect();
+    let banana: Vec<usize> = locals(b"banana");
+    assert_eq!(banana, [1, 6, 6, 2, 2, 2, 1]);
+    // At a word's ends nothing is asked.
+    assert_eq!(locals(b""), [1]);
+    assert_eq!(locals(b"a"), [1, 1]);
+    let row = "record { computed = periods (97 ∷ 98 ∷ []); stated = 2 ∷ 1 ∷ 2 ∷ 1 ∷ [] }";
+    assert!(local::table(local::sizes(2, 0)).any(|claim| claim.contains(row)));
 }
 
 #[test]

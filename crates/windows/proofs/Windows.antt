@@ -7,8 +7,8 @@ use native.Mathlib.Omega.{arith}
 use native.Mathlib.Decide.{decLt}
 use Rattle.words.specs.Word.{Word}
 use Rattle.words.specs.Occurs.{Occurs}
-use Rattle.words.specs.Critical.{Repeat}
-use Rattle.words.proofs.Critical.{critical-shift}
+use Rattle.words.specs.Period.{LocalRepeat}
+use Rattle.words.proofs.Critical.{smallest-le, critical-shift}
 use Rattle.windows.specs.declared.Plan.{Plan}
 use Rattle.windows.specs.declared.Cursor.{Cursor}
 use Rattle.windows.specs.declared.Outcome.{Outcome}
@@ -61,7 +61,7 @@ module _ {has : ℕ → Bool} {v : Plan} {x : Word} (g : Guides has v x) (h : Wo
       ]
 
   -- Where the letters from the split up to b agree, an occurrence d places later makes the needle repeat across the split: it reads the same letters of h.
-  repeat-across : {j b : ℕ} (d : ℕ) → Agree x h (s .at) c b → Occurs x h j → j ≡ s .at + d → 0 < d → min (c + d) (x .size) ≤ b → Repeat x c d
+  repeat-across : {j b : ℕ} (d : ℕ) → Agree x h (s .at) c b → Occurs x h j → j ≡ s .at + d → 0 < d → min (c + d) (x .size) ≤ b → LocalRepeat x c d
   repeat-across d agree o e pos reach =
       record {
         positive = pos;
@@ -94,7 +94,7 @@ module _ {has : ℕ → Bool} {v : Plan} {x : Word} (g : Guides has v x) (h : Wo
         | no y ↦ differ (o .same i (s .at + i) (omega arith) (omega arith))
         | yes y ↦
             let d = j - s .at in
-            let far = g .critical .smallest (g .smallest) d (g .smallest-is) (repeat-across d agree o (omega arith) (omega arith) (omega arith)) in
+            let far = smallest-le (g .critical .local-is (g .smallest) (g .smallest-is)) (repeat-across d agree o (omega arith) (omega arith) (omega arith)) in
             let least = g .period-least in
             omega arith
       ]

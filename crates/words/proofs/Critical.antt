@@ -7,24 +7,29 @@ use mathlib.Core.Logic.{_⊎_, inl, inr, ⊎-elim}
 use native.Mathlib.Omega.{arith}
 use native.Mathlib.Decide.{decLt, decLe}
 use Rattle.words.specs.Word.{Word, mirror, suffix}
-use Rattle.words.specs.Period.{Period, SmallestPeriod}
+use Rattle.words.specs.Choice.{Least}
+use Rattle.words.specs.Period.{Period, SmallestPeriod, LocalRepeat, LocalPeriod}
 use Rattle.words.specs.Order.{Below, Less, MaximalSuffix}
-use Rattle.words.specs.Critical.{Repeat, Critical, LaterStart, Again}
+use Rattle.words.specs.Critical.{Critical, LaterStart, Again}
 use Rattle.words.proofs.Mirror.{Same, mirror-mirror, period-mirror}
 use Rattle.words.proofs.Order.{below-irrefl, below-eq, less-irrefl, less-trans}
 
 -- a period repeats across every split
-pub period-repeat : {x : Word} {c r : ℕ} → Period x r → Repeat x c r
+pub period-repeat : {x : Word} {c r : ℕ} → Period x r → LocalRepeat x c r
 period-repeat p = record { positive = p .positive; repeats = λ i j hi hj e h. p .repeats i j e h }
 
--- no period is below the smallest one
-pub smallest-le : {x : Word} {p r : ℕ} → SmallestPeriod x p → Period x r → p ≤ r
-smallest-le {x} {p} {r} s q =
-    elim (decLe p r) [ yes h ↦ h | no h ↦ absurd (s .none-before r (omega arith) q) ]
+-- nothing of which a property holds is below the smallest: no period, and nothing that repeats across a split below the local period
+pub smallest-le : {P : ℕ → Type 0} {k j : ℕ} → Least P k → P j → k ≤ j
+smallest-le {P} {k} {j} s q =
+    elim (decLe k j) [ yes h ↦ h | no h ↦ absurd (s .none-before j (omega arith) q) ]
+
+-- so a local period is at most the smallest period
+pub local-below : {x : Word} {c r p : ℕ} → LocalPeriod x c r → SmallestPeriod x p → r ≤ p
+local-below l s = smallest-le l (period-repeat (s .holds))
 
 -- where the letters from c on repeat at q, what repeats across c does so at a distance that is less by q too
-shorter : {x : Word} {c k q : ℕ} → Repeat x c k → c + k ≤ x .size → q < k
-    → ((i j : ℕ) → c ≤ i → j ≡ i + q → j < x .size → x .letter i ≡ x .letter j) → Repeat x c (k - q)
+shorter : {x : Word} {c k q : ℕ} → LocalRepeat x c k → c + k ≤ x .size → q < k
+    → ((i j : ℕ) → c ≤ i → j ≡ i + q → j < x .size → x .letter i ≡ x .letter j) → LocalRepeat x c (k - q)
 shorter {x} {c} {k} {q} r fits h after =
     record {
       positive = omega arith;
@@ -34,19 +39,19 @@ shorter {x} {c} {k} {q} r fits h after =
 -- What repeats across a critical split, and fits behind it, repeats in the whole word.
 -- It is a multiple of the smallest period p, so p is taken off until it alone is left.
 module _ {x : Word} {c p : ℕ} (v : Critical x c) (s : SmallestPeriod x p) where
-  less-by-period : {k : ℕ} → Repeat x c k → c + k ≤ x .size → p < k → Repeat x c (k - p)
+  less-by-period : {k : ℕ} → LocalRepeat x c k → c + k ≤ x .size → p < k → LocalRepeat x c (k - p)
   less-by-period r fits h = shorter r fits h (λ i j hi. s .holds .repeats i j)
 
-  shift : (f k : ℕ) → k ≤ f → Repeat x c k → c + k ≤ x .size → (i j : ℕ) → j ≡ i + k → j < x .size → x .letter i ≡ x .letter j
+  shift : (f k : ℕ) → k ≤ f → LocalRepeat x c k → c + k ≤ x .size → (i j : ℕ) → j ≡ i + k → j < x .size → x .letter i ≡ x .letter j
   shift zero k hf r fits i j e h = absurd (omega arith)
   shift (suc f) k hf r fits i j e h =
       let rest : p < k → x .letter i ≡ x .letter (j - p) = λ y. shift f (k - p) (omega arith) (less-by-period r fits y) (omega arith) i (j - p) (omega arith) (omega arith) in
       elim (decLt p k) [
         | yes y ↦ rest y ∙ s .holds .repeats (j - p) j (omega arith) h
-        | no y ↦ let le = v .smallest p k s r in s .holds .repeats i j (omega arith) h
+        | no y ↦ let le = smallest-le (v .local-is p s) r in s .holds .repeats i j (omega arith) h
       ]
 
-  pub critical-shift : {k : ℕ} → Repeat x c k → c + k ≤ x .size → (i j : ℕ) → j ≡ i + k → j < x .size → x .letter i ≡ x .letter j
+  pub critical-shift : {k : ℕ} → LocalRepeat x c k → c + k ≤ x .size → (i j : ℕ) → j ≡ i + k → j < x .size → x .letter i ≡ x .letter j
   critical-shift {k} = shift k k (omega arith)
 
 -- One suffix is less than another, and both begin with the same r letters: then what follows these in the one is less than what follows in the other.
@@ -105,7 +110,7 @@ module _ (g : Bool) (u v : Word) (a : Less g u v) (b : Less (not g) u v) where
       (a .parts)
 
 -- What repeats across the later start of the two maximal suffixes, at a distance r.
-module _ {x : Word} {c r : ℕ} (l : LaterStart x c) (rep : Repeat x c r) where
+module _ {x : Word} {c r : ℕ} (l : LaterStart x c) (rep : LocalRepeat x c r) where
   -- the suffix at c + r is less than the one at c, which is maximal
   down : c + r ≤ x .size → Less (l .order) (suffix x (c + r)) (suffix x c)
   down h = l .start .greatest (c + r) h (omega arith)
@@ -164,11 +169,14 @@ later-start {x} {s} {t} {c} a b which =
     (λ e. record { order = true; start = rw (e .0) b; other = s; other-start = a; not-after = e .1 })
     which
 
--- the critical factorisation theorem: what repeats across the later start is a period, or longer than the word
+-- the critical factorisation theorem: what repeats across the later start is a period, or longer than the word, so the local period there is the smallest period
 pub critical-split : {x : Word} {c : ℕ} → LaterStart x c → Critical x c
-critical-split {x} l =
+critical-split {x} {c} l =
     record {
-      smallest = λ p r s rep. elim (decLe r (x .size)) [ yes h ↦ smallest-le s (repeat-period l rep h) | no h ↦ let w = s .holds .within in omega arith ];
+      local-is = λ p s. record {
+        holds = period-repeat (s .holds);
+        none-before = λ r h rep. let w = s .holds .within in s .none-before r h (repeat-period l rep (omega arith));
+      };
     }
 
 -- the smallest period repeats across the later start too, so it is above it
@@ -230,13 +238,13 @@ module _ (x : Word) (c q : ℕ) (s : SmallestPeriod (suffix x c) q) where
             | no h ↦
                 let f = part-fits in
                 let y = above (omega arith) in
-                let le = critical-split l .smallest p (p - q) w (shorter (period-repeat (w .holds)) (omega arith) y from-split) in
+                let le = smallest-le (critical-split l .local-is p w) (shorter (period-repeat (w .holds)) (omega arith) y from-split) in
                 let pos = s .holds .positive in
                 absurd (omega arith)
           ]
 
 -- repetitions and periods are those of the letters
-repeat-same : {x y : Word} {c r : ℕ} → Same x y → Repeat x c r → Repeat y c r
+repeat-same : {x y : Word} {c r : ℕ} → Same x y → LocalRepeat x c r → LocalRepeat y c r
 repeat-same a p =
     let n = a .size in
     record {
@@ -266,7 +274,7 @@ module _ (x : Word) where
   mirror-smallest {p} s =
       record { holds = mirror-period (s .holds); none-before = λ j hj q. s .none-before j hj (period-mirror x j q) }
 
-  pub repeat-mirror : {c d r : ℕ} → c + d ≡ x .size → Repeat x c r → Repeat (mirror x) d r
+  pub repeat-mirror : {c d r : ℕ} → c + d ≡ x .size → LocalRepeat x c r → LocalRepeat (mirror x) d r
   repeat-mirror e p =
       record {
         positive = p .positive;
@@ -274,9 +282,14 @@ module _ (x : Word) where
       }
 
 module _ (x : Word) where
-  pub mirror-repeat : {c d r : ℕ} → c + d ≡ x .size → Repeat (mirror x) c r → Repeat x d r
+  pub mirror-repeat : {c d r : ℕ} → c + d ≡ x .size → LocalRepeat (mirror x) c r → LocalRepeat x d r
   mirror-repeat e p = repeat-same (mirror-mirror x) (repeat-mirror (mirror x) e p)
+
+  -- "local_period(u, v) = local_period(reverse(v), reverse(u))"
+  pub local-mirror : {c d r : ℕ} → c + d ≡ x .size → LocalPeriod x c r → LocalPeriod (mirror x) d r
+  local-mirror e l =
+      record { holds = repeat-mirror x e (l .holds); none-before = λ j hj q. l .none-before j hj (mirror-repeat (omega arith) q) }
 
   pub critical-mirror : {c d : ℕ} → c + d ≡ x .size → Critical x c → Critical (mirror x) d
   critical-mirror e v =
-      record { smallest = λ p r s q. v .smallest p r (mirror-smallest x s) (mirror-repeat (omega arith) q) }
+      record { local-is = λ p s. local-mirror e (v .local-is p (mirror-smallest x s)) }

@@ -120,31 +120,25 @@ module _ (x : Word) where
         | no y ↦ absurd (least-misses (Period x) (periodb x) (x .size + 1) (λ i hi. period-decided i) (omega arith) (x .size) (omega arith) (whole-period h))
       ]
 
-  -- what 01's sentence asks of r at the index i of a split c, as its four exceptions and the equation
+  -- what the sentence asks of r at the index i before a split c: one of its two exceptions, or the equation
   abbrev AtIndex : ℕ → ℕ → ℕ → Type 0
-  AtIndex c r i = (((i + r < c) ⊎ (i ≡ 0)) ⊎ (x .size ≤ i + r)) ⊎ (x .letter i ≡ x .letter (i + r))
+  AtIndex c r i = ((i + r < c) ⊎ (x .size ≤ i + r)) ⊎ (x .letter i ≡ x .letter (i + r))
 
-  at-index : (c r i : ℕ) → Decides (AtIndex c r i) (ltb (i + r) c || eqb i 0 || leb (x .size) (i + r) || eqb (x .letter i) (x .letter (i + r)))
+  at-index : (c r i : ℕ) → Decides (AtIndex c r i) (ltb (i + r) c || leb (x .size) (i + r) || eqb (x .letter i) (x .letter (i + r)))
   at-index c r i =
-      decides-or (ltb (i + r) c || eqb i 0 || leb (x .size) (i + r)) (eqb (x .letter i) (x .letter (i + r)))
-      (decides-or (ltb (i + r) c || eqb i 0) (leb (x .size) (i + r))
-      (decides-or (ltb (i + r) c) (eqb i 0) (decides-lt (i + r) c) (decides-eq i 0))
-      (decides-le (x .size) (i + r)))
+      decides-or (ltb (i + r) c || leb (x .size) (i + r)) (eqb (x .letter i) (x .letter (i + r)))
+      (decides-or (ltb (i + r) c) (leb (x .size) (i + r)) (decides-lt (i + r) c) (decides-le (x .size) (i + r)))
       (decides-eq (x .letter i) (x .letter (i + r)))
 
   -- the equation at an index that is none of the exceptions, and the other way round
-  asked : (c r i : ℕ) → AtIndex c r i → c ≤ i + r → 0 < i → i + r < x .size → x .letter i ≡ x .letter (i + r)
-  asked c r i v hc hi hr =
-      ⊎-elim (λ y. ⊎-elim (λ z. ⊎-elim (λ w. absurd (omega arith)) (λ w. absurd (omega arith)) z) (λ z. absurd (omega arith)) y) (λ y. y) v
+  asked : (c r i : ℕ) → AtIndex c r i → c ≤ i + r → i + r < x .size → x .letter i ≡ x .letter (i + r)
+  asked c r i v hc hr = ⊎-elim (λ y. ⊎-elim (λ z. absurd (omega arith)) (λ z. absurd (omega arith)) y) (λ y. y) v
 
-  answers : (c r i : ℕ) → (c ≤ i + r → 0 < i → i + r < x .size → x .letter i ≡ x .letter (i + r)) → AtIndex c r i
+  answers : (c r i : ℕ) → (c ≤ i + r → i + r < x .size → x .letter i ≡ x .letter (i + r)) → AtIndex c r i
   answers c r i v =
       elim (decLt (i + r) c) [
-        | yes y ↦ inl (inl (inl y))
-        | no y ↦ elim (ℕ-discrete i 0) [
-          | yes z ↦ inl (inl (inr z))
-          | no z ↦ elim (decLe (x .size) (i + r)) [ yes w ↦ inl (inr w) | no w ↦ inr (v (omega arith) (omega arith) (omega arith)) ]
-        ]
+        | yes y ↦ inl (inl y)
+        | no y ↦ elim (decLe (x .size) (i + r)) [ yes w ↦ inl (inr w) | no w ↦ inr (v (omega arith) (omega arith)) ]
       ]
 
   pub local-decided : (c r : ℕ) → Decides (LocalRepeat x c r) (localRepeatb x c r)
@@ -153,21 +147,20 @@ module _ (x : Word) where
       decides-iff
       (λ p. record {
         positive = p .0;
-        repeats = λ i j hc hi zi e hj. asked c r i (p .1 i hi) hc zi (omega arith) ∙ ap (x .letter) (sym e);
+        repeats = λ i j hi hj e hs. asked c r i (p .1 i hi) (omega arith) (omega arith) ∙ ap (x .letter) (sym e);
       })
-      (λ l. (l .positive, λ i hi. answers c r i (λ hc zi hr. l .repeats i (i + r) hc hi zi refl hr)))
-      (decides-and (ltb 0 r) (every c (λ i. ltb (i + r) c || eqb i 0 || leb (x .size) (i + r) || eqb (x .letter i) (x .letter (i + r))))
+      (λ l. (l .positive, λ i hi. answers c r i (λ hc hr. l .repeats i (i + r) hi (omega arith) refl hr)))
+      (decides-and (ltb 0 r) (every c (λ i. ltb (i + r) c || leb (x .size) (i + r) || eqb (x .letter i) (x .letter (i + r))))
       (decides-lt 0 r)
-      (decides-every (AtIndex c r) (λ i. ltb (i + r) c || eqb i 0 || leb (x .size) (i + r) || eqb (x .letter i) (x .letter (i + r))) c (λ i hi. at-index c r i)))
+      (decides-every (AtIndex c r) (λ i. ltb (i + r) c || leb (x .size) (i + r) || eqb (x .letter i) (x .letter (i + r))) c (λ i hi. at-index c r i)))
 
-  -- a repeat that no index can break: the word's size, or 1
-  pub localPeriod-is : (c : ℕ) → 0 < x .size → LocalPeriod x c (localPeriod x c)
+  pub localPeriod-is : (c : ℕ) → LocalPeriod x c (localPeriod x c)
   unfolding localPeriod
-  localPeriod-is c h =
-      elim (decLt (least (x .size + 1) (localRepeatb x c)) (x .size + 1)) [
-        | yes y ↦ least-is (LocalRepeat x c) (localRepeatb x c) (x .size + 1) (λ i hi. local-decided c i) y
-        | no y ↦ absurd (least-misses (LocalRepeat x c) (localRepeatb x c) (x .size + 1) (λ i hi. local-decided c i) (omega arith) (x .size) (omega arith)
-            (record { positive = h; repeats = λ i j hc hi zi e hj. absurd (omega arith) }))
+  localPeriod-is c =
+      elim (decLt (least (x .size + 2) (localRepeatb x c)) (x .size + 2)) [
+        | yes y ↦ least-is (LocalRepeat x c) (localRepeatb x c) (x .size + 2) (λ i hi. local-decided c i) y
+        | no y ↦ absurd (least-misses (LocalRepeat x c) (localRepeatb x c) (x .size + 2) (λ i hi. local-decided c i) (omega arith) (x .size + 1) (omega arith)
+            (record { positive = omega arith; repeats = λ i j hi hj e hs. absurd (omega arith) }))
       ]
 
 pub below-decided : (g : Bool) (a b : ℕ) → Decides (Below g a b) (below g a b)

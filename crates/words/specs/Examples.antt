@@ -2,7 +2,7 @@
 -- The letters are ASCII: "a" is 97. Assumes nothing.
 use Prim.Native.Nat.{ℕ, _+_}
 use mathlib.Core.Bool.{Bool, true, false, _&&_}
-use mathlib.Core.List.{List, [], _∷_}
+use mathlib.Core.List.{List, [], _∷_, map}
 use lib.Dec.{T, eqb}
 use Rattle.words.specs.Word.{front, back, suffix}
 use Rattle.words.specs.Choice.{every, firstFrom}
@@ -23,8 +23,20 @@ banana = 98 ∷ 97 ∷ 110 ∷ 97 ∷ 110 ∷ 97 ∷ []
 abbrev pub nana : List ℕ
 nana = 110 ∷ 97 ∷ 110 ∷ 97 ∷ []
 
+abbrev pub aabaab : List ℕ
+aabaab = 97 ∷ 97 ∷ 98 ∷ aab
+
+abbrev pub ababab : List ℕ
+ababab = 97 ∷ 98 ∷ 97 ∷ 98 ∷ 97 ∷ 98 ∷ []
+
 abbrev pub acba : List ℕ
 acba = 97 ∷ 99 ∷ 98 ∷ 97 ∷ []
+
+abbrev pub abdc : List ℕ
+abdc = 97 ∷ 98 ∷ 100 ∷ 99 ∷ []
+
+abbrev pub baabb : List ℕ
+baabb = 98 ∷ 97 ∷ 97 ∷ 98 ∷ 98 ∷ []
 
 abbrev pub xacbaacbxxcba : List ℕ
 xacbaacbxxcba = 120 ∷ 97 ∷ 99 ∷ 98 ∷ 97 ∷ 97 ∷ 99 ∷ 98 ∷ 120 ∷ 120 ∷ 99 ∷ 98 ∷ 97 ∷ []
@@ -38,6 +50,10 @@ aaa = 97 ∷ aa
 -- where the maximal suffix of a word starts, and that suffix's smallest period
 abbrev pub split : Bool → List ℕ → List ℕ
 split g w = maximalSuffix g (front w) ∷ smallestPeriod (suffix (front w) (maximalSuffix g (front w))) ∷ []
+
+-- the local periods of a word at its splits, from 0 to its size
+abbrev pub locals : List ℕ → List ℕ
+locals w = map (localPeriod (front w)) (passing (front w .size + 1) 0 (λ i. true))
 
 -- the places that a whole walk lists at a gap, forward and backward
 abbrev pub forwardBy : ℕ → List ℕ → List ℕ → List ℕ
@@ -67,11 +83,12 @@ table =
     ∷ record { computed = split true gcagagag; stated = 2 ∷ 2 ∷ [] }
     ∷ record { computed = split false banana; stated = 2 ∷ 2 ∷ [] }
     ∷ record { computed = split true banana; stated = 1 ∷ 2 ∷ [] }
-    -- P4 to P7: the smallest period of "aabaab", "ababab", "acba" and "abdc"
-    ∷ record { computed = smallestPeriod (front (97 ∷ 97 ∷ 98 ∷ 97 ∷ 97 ∷ 98 ∷ [])) ∷ []; stated = 3 ∷ [] }
-    ∷ record { computed = smallestPeriod (front (97 ∷ 98 ∷ 97 ∷ 98 ∷ 97 ∷ 98 ∷ [])) ∷ []; stated = 2 ∷ [] }
+    -- P4 to P8: the smallest period
+    ∷ record { computed = smallestPeriod (front aabaab) ∷ []; stated = 3 ∷ [] }
+    ∷ record { computed = smallestPeriod (front ababab) ∷ []; stated = 2 ∷ [] }
     ∷ record { computed = smallestPeriod (front acba) ∷ []; stated = 3 ∷ [] }
-    ∷ record { computed = smallestPeriod (front (97 ∷ 98 ∷ 100 ∷ 99 ∷ [])) ∷ []; stated = 4 ∷ [] }
+    ∷ record { computed = smallestPeriod (front abdc) ∷ []; stated = 4 ∷ [] }
+    ∷ record { computed = smallestPeriod (front baabb) ∷ []; stated = 4 ∷ [] }
     -- P6: b is m minus the greater of the two reverse starts, so that greater one is 2
     ∷ record { computed = maximalSuffix false (back acba) ∷ maximalSuffix true (back acba) ∷ []; stated = 2 ∷ 0 ∷ [] }
     -- P9 and P10: "nana" in "banana"
@@ -93,8 +110,15 @@ table =
     ∷ record { computed = backwardBy 1 aa (97 ∷ aaa); stated = 2 ∷ 1 ∷ 0 ∷ [] }
     ∷ record { computed = forwardBy 1 [] aaa; stated = 0 ∷ 1 ∷ 2 ∷ 3 ∷ [] }
     ∷ record { computed = backwardBy 1 [] aaa; stated = 3 ∷ 2 ∷ 1 ∷ 0 ∷ [] }
-    -- the local period as 01's sentence has it: of "banana" at 2, and of "ab" at 1
-    ∷ record { computed = localPeriod (front banana) 2 ∷ localPeriod (front (97 ∷ 98 ∷ [])) 1 ∷ []; stated = 2 ∷ 1 ∷ [] }
+    -- the local period at every split, from 0 on: of the empty word, of "ab", of "banana", and of P4 to P8's needles, for which c and b are critical
+    ∷ record { computed = locals []; stated = 1 ∷ [] }
+    ∷ record { computed = locals (97 ∷ 98 ∷ []); stated = 1 ∷ 2 ∷ 1 ∷ [] }
+    ∷ record { computed = locals banana; stated = 1 ∷ 6 ∷ 6 ∷ 2 ∷ 2 ∷ 2 ∷ 1 ∷ [] }
+    ∷ record { computed = locals aabaab; stated = 1 ∷ 1 ∷ 3 ∷ 3 ∷ 1 ∷ 3 ∷ 1 ∷ [] }
+    ∷ record { computed = locals ababab; stated = 1 ∷ 2 ∷ 2 ∷ 2 ∷ 2 ∷ 2 ∷ 1 ∷ [] }
+    ∷ record { computed = locals acba; stated = 1 ∷ 3 ∷ 3 ∷ 3 ∷ 1 ∷ [] }
+    ∷ record { computed = locals abdc; stated = 1 ∷ 4 ∷ 4 ∷ 4 ∷ 1 ∷ [] }
+    ∷ record { computed = locals baabb; stated = 1 ∷ 3 ∷ 1 ∷ 4 ∷ 1 ∷ 1 ∷ [] }
     ∷ []
 
 unfoldable pub same : List ℕ → List ℕ → Bool

@@ -24,18 +24,19 @@ periodb x r = ltb 0 r && leb r (x .size) && every (x .size - r) (λ i. eqb (x .l
 unfoldable pub smallestPeriod : Word → ℕ
 smallestPeriod x = least (x .size + 1) (periodb x)
 
--- "The local period at a split |u| is the least positive r with x[i] = x[i+r] for each i from |u|-r to |u|-1 for which 0 < i and i+r < |x|"
--- (the split is c). Index 0 is left out, as that sentence does: the local period of "ab" at 1 is then 1. Nothing about searching rests on this.
+-- "The local period at a split |u| is the least positive r with x[i] = x[i+r] for each i from |u|-r to |u|-1 for which" 0 <= i and i+r < |x|. 02 [4]: "Index 0 counts".
+-- So the word repeats at the distance r across the split c: a letter before c equals the one r places after it, wherever that one stands in the word at c or after it.
 pub record LocalRepeat (x : Word) (c r : ℕ) : Type 0 where
   pub positive : 0 < r
-  pub repeats : (i j : ℕ) → c ≤ i + r → i < c → 0 < i → j ≡ i + r → j < x .size → x .letter i ≡ x .letter j
+  pub repeats : (i j : ℕ) → i < c → c ≤ j → j ≡ i + r → j < x .size → x .letter i ≡ x .letter j
 
+-- the local period at the split c
 abbrev pub LocalPeriod : Word → ℕ → ℕ → Type 0
 LocalPeriod x c = Least (LocalRepeat x c)
 
 unfoldable pub localRepeatb : Word → ℕ → ℕ → Bool
-localRepeatb x c r = ltb 0 r && every c (λ i. ltb (i + r) c || eqb i 0 || leb (x .size) (i + r) || eqb (x .letter i) (x .letter (i + r)))
+localRepeatb x c r = ltb 0 r && every c (λ i. ltb (i + r) c || leb (x .size) (i + r) || eqb (x .letter i) (x .letter (i + r)))
 
--- the local period at c, computed: it is at most the word's size, or 1 if the word is empty
+-- the local period, computed: nothing is asked of a distance above the size
 unfoldable pub localPeriod : Word → ℕ → ℕ
-localPeriod x c = least (x .size + 1) (localRepeatb x c)
+localPeriod x c = least (x .size + 2) (localRepeatb x c)
