@@ -14,10 +14,14 @@ use Rattle.words.specs.Critical.{LocalSomewhere, LaterStart}
 use Rattle.words.proofs.Order.{less-trans}
 use Rattle.words.proofs.Critical.{later-start, critical-split, split-below, local-below}
 
--- of two letters that differ, one is below the other
+-- of two numbers that differ, one is less
+lower : (a b : ℕ) → (a ≡ b → ⊥) → (a < b) ⊎ (b < a)
+lower a b ne = elim (decLt a b) [ yes h ↦ inl h | no h ↦ elim (ℕ-discrete a b) [ yes e ↦ absurd (ne e) | no e ↦ inr (omega arith) ] ]
+
+-- and of two letters, in either order, one is below the other
 below-total : (g : Bool) (a b : ℕ) → (a ≡ b → ⊥) → Below g a b ⊎ Below g b a
-below-total false a b ne = elim (decLt a b) [ yes h ↦ inl h | no h ↦ elim (ℕ-discrete a b) [ yes e ↦ absurd (ne e) | no e ↦ inr (omega arith) ] ]
-below-total true a b ne = elim (decLt a b) [ yes h ↦ inr h | no h ↦ elim (ℕ-discrete a b) [ yes e ↦ absurd (ne e) | no e ↦ inl (omega arith) ] ]
+below-total false a b ne = lower a b ne
+below-total true a b ne = lower b a (λ e. ne (sym e))
 
 -- Of two words of different sizes one is less than the other. They agree up to k, and have f letters more to be looked at.
 module _ (g : Bool) (u v : Word) (sizes : u .size ≡ v .size → ⊥) where
@@ -26,13 +30,10 @@ module _ (g : Bool) (u v : Word) (sizes : u .size ≡ v .size → ⊥) where
 
   less-from : (f k : ℕ) → f + k ≡ min (u .size) (v .size) → ((i : ℕ) → i < k → u .letter i ≡ v .letter i) → Less g u v ⊎ Less g v u
   less-from zero k e same =
-      elim (decLt (u .size) (v .size)) [
-        | yes h ↦ inl (shorter-less u v (λ i hi. same i (omega arith)) h)
-        | no h ↦ elim (ℕ-discrete (u .size) (v .size)) [
-          | yes y ↦ absurd (sizes y)
-          | no y ↦ inr (shorter-less v u (λ i hi. sym (same i (omega arith))) (omega arith))
-        ]
-      ]
+      ⊎-elim
+      (λ h. inl (shorter-less u v (λ i hi. same i (omega arith)) h))
+      (λ h. inr (shorter-less v u (λ i hi. sym (same i (omega arith))) h))
+      (lower (u .size) (v .size) sizes)
   less-from (suc f) k e same =
       elim (ℕ-discrete (u .letter k) (v .letter k)) [
         | yes y ↦ less-from f (k + 1) (omega arith) (λ i hi. elim (ℕ-discrete i k) [ yes z ↦ rw z y | no z ↦ same i (omega arith) ])

@@ -37,6 +37,6 @@ LocalPeriod x c = Least (LocalRepeat x c)
 unfoldable pub localRepeatb : Word → ℕ → ℕ → Bool
 localRepeatb x c r = ltb 0 r && every c (λ i. ltb (i + r) c || leb (x .size) (i + r) || eqb (x .letter i) (x .letter (i + r)))
 
--- the local period, computed: nothing is asked of a distance above the size
+-- the local period, computed: nothing is asked of a distance that is the size or above it
 unfoldable pub localPeriod : Word → ℕ → ℕ
 localPeriod x c = least (x .size + 2) (localRepeatb x c)
