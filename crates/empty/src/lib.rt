@@ -1,4 +1,5 @@
 // One direction of an empty needle's walk: a match at every place, and between two of them the byte that lies there, rejected.
+#![tactic(auto)]
 ghost use Rattle.std.specs.Prelude.{◌≡◌};
 ghost use Rattle.empty.specs.Turns.{turned};
 

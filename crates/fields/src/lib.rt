@@ -1,6 +1,7 @@
 // Reading the fields of a case line: a choice of two letters, a number behind its mark, a set, a word. A reader takes what it can and
 // stops. What stands behind it, a space, a colon or the end, is the next one's to ask: there a field is refused that is too long, or that
 // breaks off.
+#![tactic(auto)]
 ghost use Rattle.std.specs.Prelude.{◌≡◌, ◌+◌, ◌≤◌, cond, length};
 ghost use Rattle.lines.specs.Reading.{skipped};
 ghost use Rattle.fields.specs.Fields.{either_at, flag_at, digit_of, number_at, set_at, has_byte, byte_at, ReadsWord};

@@ -1,4 +1,5 @@
 // The larger and the smaller of two numbers.
+#![tactic(auto)]
 ghost use Rattle.std.specs.Prelude.{◌≡◌, min, max};
 
 pub fn larger(a: usize, b: usize) -> usize

@@ -1,5 +1,6 @@
 // The record of a walk in its two parts: what preparing fixes and what a walk moves. What each direction reads and sets in them, and
 // when they fit. No function here asks anything of its arguments.
+#![tactic(auto)]
 mod fit;
 mod kinds;
 

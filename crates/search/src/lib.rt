@@ -1,4 +1,5 @@
 // Taking a walk on in one direction: the checks, and then windows until there is an answer.
+#![tactic(auto)]
 mod letters;
 mod run;
 mod turns;

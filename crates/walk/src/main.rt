@@ -1,4 +1,5 @@
 // Reads case lines from standard input to its end, and writes one answer line for each.
+#![tactic(auto)]
 mod call;
 mod case;
 mod front;

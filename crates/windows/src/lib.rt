@@ -1,4 +1,5 @@
 // The records that a walk's code and its rules share. The rules, one direction at a time, are in specs/.
+#![tactic(auto)]
 
 // What a walk in one direction goes by and never changes.
 #[derive(Drop)]

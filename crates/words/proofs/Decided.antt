@@ -72,7 +72,7 @@ module _ (x h : Word) where
   leftmost_alone gap a (k ∷ ks) [] (Leftmost.hit o r) (Leftmost.over m) = absurd (m k o.holds)
   leftmost_alone gap a (k ∷ ks) (l ∷ ls) (Leftmost.hit o r) (Leftmost.hit p q) =
       let e = least_alone (OccursFrom x h a) k l o p in
-      let rest = leftmost_alone gap _ ks ls r (rw (← e) at q) in
+      let rest = leftmost_alone gap (k + gap) ks ls r (rw (← e) at q) in
       cc
 
 -- the same of the rightmost list
@@ -90,7 +90,7 @@ module _ (x h : Word) where
   rightmost_alone gap b (k ∷ ks) [] (Rightmost.hit o r) (Rightmost.over m) = absurd (m k o.holds)
   rightmost_alone gap b (k ∷ ks) (l ∷ ls) (Rightmost.hit o r) (Rightmost.hit p q) =
       let e = greatest_alone (OccursBelow x h b) k l o p in
-      let rest = rightmost_alone gap _ ks ls r (rw (← e) at q) in
+      let rest = rightmost_alone gap (k + 1 - gap) ks ls r (rw (← e) at q) in
       cc
 
 module _ (x : Word) where

@@ -60,6 +60,7 @@ module _ (ks : List ℕ) where
     ordered_front (m ∷ ms) (Ordered.first f o) = Ordered.first (λ j i. f j (in_front i)) (ordered_front ms o)
 
     across : {a b : ℕ} (ms : List ℕ) → Ordered before (ms ++ ks) → In a ms → In b ks → before a b
+    across [] o i j = elim i [ ]
     across (m ∷ ms) (Ordered.first f o) In.here j = f _ (in_back ms j)
     across (m ∷ ms) (Ordered.first f o) (In.later i) j = across ms o i j
 
@@ -105,12 +106,12 @@ module _ {before : ℕ → ℕ → Type 0} (apart : (j k : ℕ) → before j k �
       (in_first (b.every k (a.only k In.here)))
 
   pub lists_alone : {P : ℕ → Type 0} (ks ls : List ℕ) → Lists before P ks → Lists before P ls → ks ≡ ls
-  lists_alone [] [] a b = refl
-  lists_alone [] (l ∷ ls) a b = absurd (nowhere (a.every l (b.only l In.here)))
-  lists_alone (k ∷ ks) [] a b = absurd (nowhere (b.every k (a.only k In.here)))
-  lists_alone {P} (k ∷ ks) (l ∷ ls) a b =
+  lists_alone {P = P} [] [] a b = refl
+  lists_alone {P = P} [] (l ∷ ls) a b = absurd (nowhere (a.every l (b.only l In.here)))
+  lists_alone {P = P} (k ∷ ks) [] a b = absurd (nowhere (b.every k (a.only k In.here)))
+  lists_alone {P = P} (k ∷ ks) (l ∷ ls) a b =
       let e = same_first a b in
-      let rest = lists_alone ks ls (lists_rest a) (subst (λ j. Lists before (λ i. P i × before j i) ls) (sym e) (lists_rest b)) in
+      let rest = lists_alone {P = λ j. P j × before k j} ks ls (lists_rest a) (subst (λ j. Lists before (λ i. P i × before j i) ls) (sym e) (lists_rest b)) in
       rw (e, rest)
 
 -- ---- the computed list

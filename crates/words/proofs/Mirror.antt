@@ -78,20 +78,20 @@ module _ (x h : Word) where
   rightmost_mirror gap b a [] f (Leftmost.over m) = Rightmost.over (none_none b a f m)
   rightmost_mirror gap b a (k ∷ ks) f (Leftmost.hit l r) =
       let fits = l.holds.1.fits in
-      Rightmost.hit (least_greatest b a f k l) (rightmost_mirror gap _ _ ks (λ i i' e. omega arith) r)
+      Rightmost.hit (least_greatest b a f k l) (rightmost_mirror gap (mirrored x h k + 1 - gap) (k + gap) ks (λ i i' e. omega arith) r)
 
   -- and the other way round
   pub leftmost_mirror : (gap b a : ℕ) (ks : List ℕ) → Facing b a → Rightmost x h gap b ks → Leftmost (mirror x) (mirror h) gap a (map (mirrored x h) ks)
   leftmost_mirror gap b a [] f (Rightmost.over m) = Leftmost.over (none_from b a f m)
   leftmost_mirror gap b a (k ∷ ks) f (Rightmost.hit g r) =
       let fits = g.holds.1.fits in
-      Leftmost.hit (greatest_least b a f k g) (leftmost_mirror gap _ _ ks (λ i i' e. omega arith) r)
+      Leftmost.hit (greatest_least b a f k g) (leftmost_mirror gap (k + 1 - gap) (mirrored x h k + gap) ks (λ i i' e. omega arith) r)
 
   -- the places of a list, counted from the other end and back
   pub rightmost_mirrored : (gap b : ℕ) (ks : List ℕ) → Rightmost x h gap b ks → map (mirrored x h) (map (mirrored x h) ks) ≡ ks
   rightmost_mirrored gap b [] r = refl
   rightmost_mirrored gap b (k ∷ ks) (Rightmost.hit g r) =
-      rw (mirrored_mirrored k g.holds.1.fits, rightmost_mirrored gap _ ks r)
+      rw (mirrored_mirrored k g.holds.1.fits, rightmost_mirrored gap (k + 1 - gap) ks r)
 
 -- a period of the word is one of the word read from the back
 pub period_mirror : (x : Word) (r : ℕ) → Period x r → Period (mirror x) r

@@ -1,1 +1,2 @@
 // Theory only: what words, occurrences, periods and maximal suffixes are. See specs/.
+#![tactic(auto)]
