@@ -1,5 +1,6 @@
 // The fingerprint of a byte string: a set of 64 bits that rules a byte out in one test.
 #![tactic(auto)]
+
 ghost use Rattle.std.specs.Prelude.{◌≡◌, true, ℕ, ◌<◌, length, get_or};
 ghost use Rattle.byteset.specs.Fingerprint.{bit_of, fingerprint, has};
 

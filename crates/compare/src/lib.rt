@@ -1,5 +1,6 @@
 // How far two byte strings agree, from the front.
 #![tactic(auto)]
+
 ghost use Rattle.std.specs.Prelude.{◌≡◌, ◌<◌, length, get_or};
 ghost use Rattle.compare.specs.Agree.{agree};
 

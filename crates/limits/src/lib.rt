@@ -1,4 +1,5 @@
 #![tactic(auto)]
+
 ghost use Rattle.std.specs.Prelude.{◌≡◌, ltb};
 ghost use Rattle.limits.specs.Bounds.{haystack_bound, needle_bound};
 ghost use Rattle.limits.specs.Checks.{lengths};

@@ -6,15 +6,11 @@ use native.Mathlib.Omega.{arith}
 use lib.Bits.{and_le_l}
 use Rattle.byteset.specs.Fingerprint.{bit_of}
 use Rattle.byteset.proofs.Laws.{bit_lt}
-use Rattle.byteset.proofs.bit_of.Statement.{statement}
-use Rattle.byteset.proofs.bit_of.Tie as tie
+use Rattle.byteset.proofs.bit_of.Goals as goal
 
-cast-result : tie.Need-overflow-cast-result
-cast-result c = record { fits = lt_of_le_of_lt (and_le_l c.args.byte _) (omega arith) }
+pub overflow_cast-result : goal.overflow_cast-result
+overflow_cast-result c = record { fits = lt_of_le_of_lt (and_le_l c.args.byte _) (omega arith) }
 
-returns : tie.Need-returns
+pub returns : goal.returns
 unfolding bit_of
 returns c = (refl, bit_lt c.args.byte)
-
-pub bit-of-spec : {M : Type 1} → statement M
-bit-of-spec = tie.close (tie.spec cast-result returns)
