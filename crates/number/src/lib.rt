@@ -1,5 +1,6 @@
 // The larger and the smaller of two numbers.
 #![tactic(auto)]
+
 ghost use Rattle.std.specs.Prelude.{◌≡◌, min, max};
 
 pub fn larger(a: usize, b: usize) -> usize

@@ -1,4 +1,5 @@
 #![tactic(auto)]
+
 ghost use Rattle.std.specs.Prelude.{◌≡◌, cond, not, [], ◌∷◌, ◌+◌, ◌-◌, ◌<◌, ◌≤◌, eqb, length, get_or};
 ghost use Rattle.words.specs.Word.{front, back};
 ghost use Rattle.words.specs.Choice.{FindsLeast, FindsGreatest, every};

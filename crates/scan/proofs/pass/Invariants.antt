@@ -1,0 +1,12 @@
+-- `scan::pass` meets its contract, in either direction and for every width. The loop's invariant: none of the letters passed is x.
+-- Assumes nothing.
+use Prim.Native.Nat.{◌-◌}
+use lib.ListN.{length}
+use Rattle.scan.proofs.Passes.{Passed}
+use Rattle.scan.proofs.pass.Given as goal
+
+abbrev pub invariant-loop-at : goal.invariant-loop-at
+invariant-loop-at l = Passed l.x l.text l.backward l.at
+
+abbrev pub decreases-loop-at : goal.decreases-loop-at
+decreases-loop-at l = length l.text - l.at
