@@ -1,17 +1,18 @@
 // One direction of an empty needle's walk: a match at every place, and between two of them the byte that lies there, rejected.
 #![tactic(auto)]
+
 ghost use Rattle.std.specs.Prelude.{◌≡◌};
 ghost use Rattle.empty.specs.Turns.{turned};
 
 // Where a direction stands: how many bytes lie ahead of it, and whether the next thing that it gives is a match.
-#[derive(Drop)]
+#[derive(Clone, Copy)]
 pub struct Side {
     pub ahead: usize,
     pub is_match: bool,
 }
 
 // What a call gives: a match at the place where the direction then stands, the byte that it passed, or nothing, since all was given.
-#[derive(Drop)]
+#[derive(Clone, Copy)]
 pub enum Gives {
     Match,
     Reject,
@@ -19,7 +20,7 @@ pub enum Gives {
 }
 
 // What a call gave, and where the direction stands after it.
-#[derive(Drop)]
+#[derive(Clone, Copy)]
 pub struct Turned {
     pub gives: Gives,
     pub side: Side,

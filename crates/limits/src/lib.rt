@@ -11,7 +11,7 @@ pub const HAYSTACK_BOUND: usize = 67_108_864;
 pub const NEEDLE_BOUND: usize = 65_536;
 
 // Why a public call refuses. Nothing else is refused. No call refuses an empty needle now; the number stays, for a call to come.
-#[derive(Drop)]
+#[derive(Clone, Copy)]
 pub enum Refusal {
     HaystackTooLong,
     NeedleTooLong,
@@ -34,7 +34,7 @@ pub fn number(refusal: Refusal) -> u8
 }
 
 // What a row of checks comes to: nothing refuses, or the first check that does.
-#[derive(Drop)]
+#[derive(Clone, Copy)]
 pub enum Check {
     Pass,
     Refuse(Refusal),

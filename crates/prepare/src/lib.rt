@@ -12,14 +12,14 @@ use limits::{Check, Refusal};
 use record::{Counts, Fixed, Kind, Memory, Mode, Moving};
 use suffix::{ReverseAnswer, ReverseSuffix, Suffix, SuffixAnswer};
 
-#[derive(Drop)]
+#[derive(Clone, Copy)]
 pub enum Preparation {
     Ready,
     Refused(Refusal),
 }
 
 // What preparing comes to: the two parts of a record, and the count. Where it refuses, they are no state.
-#[derive(Drop)]
+#[derive(Clone, Copy)]
 pub struct Parts {
     pub answer: Preparation,
     pub fixed: Fixed,

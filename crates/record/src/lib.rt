@@ -1,6 +1,7 @@
 // The record of a walk in its two parts: what preparing fixes and what a walk moves. What each direction reads and sets in them, and
 // when they fit. No function here asks anything of its arguments.
 #![tactic(auto)]
+
 mod fit;
 mod kinds;
 
@@ -11,7 +12,7 @@ pub use kinds::{
 };
 
 // What a walk remembers of the window before: nothing where the needle's period is long, else a number for each direction.
-#[derive(Drop)]
+#[derive(Clone, Copy)]
 pub enum Memory {
     Long,
     Short { forward: usize, backward: usize },
@@ -19,7 +20,7 @@ pub enum Memory {
 
 // What kind of walk it is: that of the two way searcher, or that of an empty needle, with a flag for each direction: whether the next
 // thing that it gives is a match. An empty walk reads and sets nothing but its lengths, its cursors and its flags.
-#[derive(Drop)]
+#[derive(Clone, Copy)]
 pub enum Kind {
     TwoWay,
     Empty {
@@ -29,7 +30,7 @@ pub enum Kind {
 }
 
 // What the kind of a walk is to its calls: whether it is the empty one, and its flags. A two way walk has none, and they read false.
-#[derive(Drop)]
+#[derive(Clone, Copy)]
 pub struct Flags {
     pub empty: bool,
     pub is_match_fw: bool,
@@ -37,14 +38,14 @@ pub struct Flags {
 }
 
 // Which matches a walk lists: those that do not overlap, or every occurrence.
-#[derive(Drop)]
+#[derive(Clone, Copy)]
 pub enum Mode {
     NonOverlapping,
     Overlapping,
 }
 
 // What preparing fixes. No call of a walk changes it.
-#[derive(Drop)]
+#[derive(Clone, Copy)]
 pub struct Fixed {
     pub needle_len: usize,
     pub haystack_len: usize,
@@ -56,7 +57,7 @@ pub struct Fixed {
 }
 
 // What a walk moves: where each direction stands, and what it remembers. Its kind stays what preparing made it.
-#[derive(Drop)]
+#[derive(Clone, Copy)]
 pub struct Moving {
     pub position: usize,
     pub end: usize,
@@ -65,7 +66,7 @@ pub struct Moving {
 }
 
 // What a call cost: rounds and pairs of preparing, comparisons of needle with haystack, and tests of the fingerprint.
-#[derive(Drop)]
+#[derive(Clone, Copy)]
 pub struct Counts {
     pub preparing: usize,
     pub comparisons: usize,

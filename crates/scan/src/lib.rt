@@ -7,14 +7,14 @@ ghost use Rattle.words.specs.Occurs.{Occurs};
 ghost use Rattle.scan.specs.Scanned.{place_of, scan_told, before, from_front, from_back};
 
 // Where a scan found its byte.
-#[derive(Drop)]
+#[derive(Clone, Copy)]
 pub enum Found {
     At(usize),
     Nothing,
 }
 
 // What a scan answers: the place, and how many bytes it compared.
-#[derive(Drop)]
+#[derive(Clone, Copy)]
 pub struct Scan {
     pub found: Found,
     pub comparisons: usize,

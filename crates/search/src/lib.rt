@@ -14,7 +14,7 @@ use record::{Counts, Fixed, Mode, Moving};
 use windows::Stop;
 
 // What a call comes to: it is refused, a step finds nothing left, a match, a part passed without one, or no room for a further window.
-#[derive(Drop)]
+#[derive(Clone, Copy)]
 pub enum Ending {
     Refused(Refusal),
     Done,
@@ -24,7 +24,7 @@ pub enum Ending {
 }
 
 // What a call found, where the walk stands after it, and what it cost.
-#[derive(Drop)]
+#[derive(Clone, Copy)]
 pub struct Walked {
     pub ending: Ending,
     pub moving: Moving,

@@ -10,14 +10,14 @@ pub use record::{Counts, Fixed, Kind, Memory, Mode, Moving};
 use search::{Ending, Walked};
 
 // The state of a walk: what preparing fixed, and what the calls move. It goes into a call by value and comes back in its answer.
-#[derive(Drop)]
+#[derive(Clone, Copy)]
 pub struct TwoWaySearcher {
     pub fixed: Fixed,
     pub moving: Moving,
 }
 
 // What preparing answers. Where it refuses, `walk` is no state.
-#[derive(Drop)]
+#[derive(Clone, Copy)]
 pub struct Prepared {
     pub answer: Preparation,
     pub walk: TwoWaySearcher,
@@ -25,7 +25,7 @@ pub struct Prepared {
 }
 
 // What one step answers: the part of the haystack that it settled, or that there is nothing left.
-#[derive(Drop)]
+#[derive(Clone, Copy)]
 pub enum Step {
     Match(usize, usize),
     Reject(usize, usize),
@@ -33,21 +33,21 @@ pub enum Step {
     Refused(Refusal),
 }
 
-#[derive(Drop)]
+#[derive(Clone, Copy)]
 pub struct Stepped {
     pub answer: Step,
     pub walk: TwoWaySearcher,
     pub counts: Counts,
 }
 
-#[derive(Drop)]
+#[derive(Clone, Copy)]
 pub enum NextMatch {
     Match(usize, usize),
     Nothing,
     Refused(Refusal),
 }
 
-#[derive(Drop)]
+#[derive(Clone, Copy)]
 pub struct Matched {
     pub answer: NextMatch,
     pub walk: TwoWaySearcher,

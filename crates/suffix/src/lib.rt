@@ -8,34 +8,34 @@ ghost use Rattle.suffix.specs.Answer.{Sound, suffix_said, reverse_said, maximal_
 use limits::Refusal;
 
 // The maximal suffix of a word: where it starts, its smallest period, and the rounds that it took to find it.
-#[derive(Drop)]
+#[derive(Clone, Copy)]
 pub struct Suffix {
     pub start: usize,
     pub period: usize,
     pub rounds: usize,
 }
 
-#[derive(Drop)]
+#[derive(Clone, Copy)]
 pub enum SuffixAnswer {
     Found(Suffix),
     Refused(Refusal),
 }
 
 // The maximal suffix of a reversed word: the start, counted from the back, and the rounds.
-#[derive(Drop)]
+#[derive(Clone, Copy)]
 pub struct ReverseSuffix {
     pub start: usize,
     pub rounds: usize,
 }
 
-#[derive(Drop)]
+#[derive(Clone, Copy)]
 pub enum ReverseAnswer {
     Found(ReverseSuffix),
     Refused(Refusal),
 }
 
 // Where the search for a maximal suffix stands; the names are the source's.
-#[derive(Drop)]
+#[derive(Clone, Copy)]
 struct State {
     left: usize, // i in the paper
     right: usize, // j in the paper

@@ -12,7 +12,7 @@ use scan::{Found, Scan};
 use searcher::{Counts, Matched, Mode, NextMatch, TwoWaySearcher};
 
 // Where a search found the pattern, or why it did not look.
-#[derive(Drop)]
+#[derive(Clone, Copy)]
 pub enum Position {
     At(usize),
     Nothing,
@@ -20,7 +20,7 @@ pub enum Position {
 }
 
 // What a search answers, with what it cost.
-#[derive(Drop)]
+#[derive(Clone, Copy)]
 pub struct Answer {
     pub position: Position,
     pub counts: Counts,

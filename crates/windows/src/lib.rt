@@ -2,7 +2,7 @@
 #![tactic(auto)]
 
 // What a walk in one direction goes by and never changes.
-#[derive(Drop)]
+#[derive(Clone, Copy)]
 pub struct Plan {
     // c forward, b backward
     pub split: usize,
@@ -17,14 +17,14 @@ pub struct Plan {
 }
 
 // Where a walk in one direction stands: `position` or `end`, and that direction's memory.
-#[derive(Drop)]
+#[derive(Clone, Copy)]
 pub struct Cursor {
     pub at: usize,
     pub memory: usize,
 }
 
 // What a window comes to: whether it is a match, where the walk stands then, and how many comparisons were made.
-#[derive(Drop)]
+#[derive(Clone, Copy)]
 pub struct Outcome {
     pub matched: bool,
     pub next: Cursor,
@@ -32,7 +32,7 @@ pub struct Outcome {
 }
 
 // Why a search ends: a match that starts at the number given, a middle Reject, or no room for a further window.
-#[derive(Drop)]
+#[derive(Clone, Copy)]
 pub enum Stop {
     Hit(usize),
     Passed,
@@ -40,7 +40,7 @@ pub enum Stop {
 }
 
 // What a search ends with. A Reject reaches from the cursor at the call to this one.
-#[derive(Drop)]
+#[derive(Clone, Copy)]
 pub struct Searched {
     pub stop: Stop,
     pub cursor: Cursor,
