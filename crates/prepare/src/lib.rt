@@ -1,5 +1,6 @@
 // Preparing: the splits, the period and the fingerprint of a needle, and what they cost.
 #![tactic(auto)]
+
 ghost use Rattle.std.specs.Prelude.{◌≡◌, ◌+◌, ◌*◌, ◌<◌, ◌≤◌, length};
 ghost use Rattle.std.proofs.Math.Option.{none, some};
 ghost use Rattle.words.specs.Word.{front, back};
