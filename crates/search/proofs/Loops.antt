@@ -1,6 +1,6 @@
 -- What a search's loop keeps, and what its passes and its ends show: laws that serve both directions, and what a search forward is to them.
 -- Assumes nothing.
-use Rattle.std.proofs.Common.{◌≡◌, ℕ, zero, suc, ◌+◌, ◌-◌, ◌*◌, ◌^◌, ◌<◌, ◌≤◌, Bool, true, false, cond, not, ◌&&◌, eqb, ltb, sym, refl, ◌∙◌, arith, ltb-true}
+use Rattle.std.proofs.Common.{◌≡◌, ℕ, zero, suc, ◌+◌, ◌-◌, ◌*◌, ◌^◌, ◌<◌, ◌≤◌, Bool, true, false, cond, not, ◌&&◌, ◌⊎◌, ⊎_elim, eqb, ltb, eq-eqb, ne_eqb, sym, refl, ◌∙◌, arith, ltb-true}
 use native.Mathlib.Nat.{sub-zero}
 use Rattle.words.specs.Word.{Word}
 use Rattle.windows.specs.declared.Plan.{Plan}
@@ -13,6 +13,13 @@ use Rattle.windows.specs.Search.{ended, moved_to, forward_search}
 use Rattle.windows.specs.Shape.{Shape}
 use Rattle.windows.proofs.Counts.{Spent, spent_none, spent_window}
 use Rattle.search.specs.Code.{StopFits}
+
+-- a step ends its search once it has passed a part, and not before
+pub part_passed : (stepping : Bool) (now start : ℕ) → stepping ≡ true → (now ≡ start → ⊥) → (stepping && not (eqb now start)) ≡ true
+part_passed stepping now start asked moved = rw (asked, ne_eqb now start moved)
+
+pub no_part_passed : (stepping : Bool) (now start : ℕ) → ((stepping ≡ true) × (now ≡ start)) ⊎ (stepping ≡ false) → (stepping && not (eqb now start)) ≡ false
+no_part_passed stepping now start either = ⊎_elim (λ w. rw (w.0, eq-eqb now start w.1)) (λ w. rw w) either
 
 -- a search by its fuel, from a cursor, with the comparisons and the tests so far
 abbrev pub Run : Type 0

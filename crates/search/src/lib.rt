@@ -1,5 +1,6 @@
 // Taking a walk on in one direction: the checks, and then windows until there is an answer.
 #![tactic(auto)]
+
 mod letters;
 mod run;
 mod turns;
