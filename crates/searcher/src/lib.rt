@@ -1,5 +1,6 @@
 // The two way searcher: preparing, and walks in both directions, those of an empty needle too.
 #![tactic(auto)]
+
 ghost use Rattle.std.specs.Prelude.{◌≡◌};
 ghost use Rattle.record.specs.Fits.{fits};
 ghost use Rattle.searcher.specs.Walk.{step_said, match_said, prepared_told, stepped_told, matched_told, new_rule, NoWalk, step_answer, match_answer, step_of, match_of, next_rule, next_back_rule, next_match_rule, next_match_back_rule};
