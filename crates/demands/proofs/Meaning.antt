@@ -174,7 +174,7 @@ module _ (needle haystack : List ℕ) (mode : Mode) (ok : Allowed needle haystac
         (backward_cases needle haystack ok f s reach.fit reach.two_way (λ r. StepBackMeans x h below s.end r.moving.end (step_answer r.ending r.moving.end s.end)) true
         (not_refused apart)
         (λ _ e. (e, refl, at_front e))
-        (λ whole e. step_settles_back x h _ (rw whole) s.end _ cursor'.at _ (omega arith) t.cursors.place t.stops (holds_step backward_holds (let more = e refl in omega arith))))
+        (λ whole e. step_settles_back x h (mirrored_plan x.size (backward_plan x.size f s.memory)) (rw whole) s.end _ cursor'.at _ (omega arith) t.cursors.place t.stops (holds_step backward_holds (let more = e refl in omega arith))))
 
     two_way_means : Means needle haystack mode H
     two_way_means =

@@ -1,5 +1,6 @@
 // Finding a pattern in a text, from the front and from the back, and the same for C.
 #![tactic(auto)]
+
 ghost use Rattle.std.specs.Prelude.{◌≡◌};
 ghost use Rattle.limits.specs.Said.{given};
 ghost use Rattle.scan.specs.Scanned.{place_of, scan_told};
