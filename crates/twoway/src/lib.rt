@@ -134,8 +134,8 @@ fn code(position: Position) -> u64
     }
 }
 
-#[unsafe(no_mangle)]
-pub extern "C" fn twoway_find(text: &[u8], pattern: &[u8]) -> u64
+// What the C functions of these names answer; crate twoway_c exports them.
+pub fn twoway_find(text: &[u8], pattern: &[u8]) -> u64
     ensures { result ≡ code_of (find_rule text.now pattern.now).position }
 {
     let found = find_bytes(text, pattern);
@@ -143,8 +143,7 @@ pub extern "C" fn twoway_find(text: &[u8], pattern: &[u8]) -> u64
     code(position)
 }
 
-#[unsafe(no_mangle)]
-pub extern "C" fn twoway_rfind(text: &[u8], pattern: &[u8]) -> u64
+pub fn twoway_rfind(text: &[u8], pattern: &[u8]) -> u64
     ensures { result ≡ code_of (rfind_rule text.now pattern.now).position }
 {
     let found = rfind_bytes(text, pattern);
