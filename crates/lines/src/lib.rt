@@ -1,5 +1,6 @@
 // Where reading stands in a case line, and what stands in the line as it is: a byte, a script, the end.
 #![tactic(auto)]
+
 ghost use Rattle.std.specs.Prelude.{◌≡◌, ◌+◌, ◌≤◌, length};
 ghost use Rattle.lines.specs.Reading.{is_end, first_index, is_letter, is_script, skipped};
 
