@@ -2,6 +2,7 @@
 // stops. What stands behind it, a space, a colon or the end, is the next one's to ask: there a field is refused that is too long, or that
 // breaks off.
 #![tactic(auto)]
+
 ghost use Rattle.std.specs.Prelude.{◌≡◌, ◌+◌, ◌≤◌, cond, length};
 ghost use Rattle.lines.specs.Reading.{skipped};
 ghost use Rattle.fields.specs.Fields.{either_at, flag_at, digit_of, number_at, set_at, has_byte, byte_at, ReadsWord};

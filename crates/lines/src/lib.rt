@@ -5,7 +5,7 @@ ghost use Rattle.std.specs.Prelude.{◌≡◌, ◌+◌, ◌≤◌, length};
 ghost use Rattle.lines.specs.Reading.{is_end, first_index, is_letter, is_script, skipped};
 
 // Where reading stands: at a byte of the line, or nowhere, once something was not of its form. Then it stays so.
-#[derive(Drop)]
+#[derive(Clone, Copy)]
 pub enum Cursor {
     At(usize),
     Lost,
