@@ -1,5 +1,6 @@
 // The mode and the state of a walk in a case line, read and printed: MODE and STATE of docs/LINES.md.
 #![tactic(auto)]
+
 ghost use Rattle.std.specs.Prelude.{◌≡◌, ◌+◌, length};
 ghost use Rattle.printing.specs.InRoom.{InRoom};
 ghost use Rattle.printing.specs.Printing.{Prints, form_text};
