@@ -10,31 +10,31 @@ ghost use Rattle.fields.specs.Fields.{either_at, flag_at, digit_of, number_at, s
 use lines::Cursor;
 
 // What a reader read, and where the next one starts. Where that is nowhere, nothing was read.
-#[derive(Drop)]
+#[derive(Clone, Copy)]
 pub struct Number {
     pub value: usize,
     pub next: Cursor,
 }
 
-#[derive(Drop)]
+#[derive(Clone, Copy)]
 pub struct Flag {
     pub set: bool,
     pub next: Cursor,
 }
 
-#[derive(Drop)]
+#[derive(Clone, Copy)]
 pub struct Set {
     pub value: u64,
     pub next: Cursor,
 }
 
-#[derive(Drop)]
+#[derive(Clone, Copy)]
 pub struct Word {
     pub len: usize,
     pub next: Cursor,
 }
 
-#[derive(Drop)]
+#[derive(Clone, Copy)]
 struct Byte {
     value: u8,
     next: usize,

@@ -1,6 +1,7 @@
 // Printing an answer into a room. What does not fit is left out; the place behind it is then the end of the room. So all was printed
 // where the place is before the end.
 #![tactic(auto)]
+
 ghost use Rattle.std.specs.Prelude.{◌≡◌, ◌+◌, ◌*◌, ◌≤◌, min, max, length, get_or};
 ghost use Rattle.printing.specs.InRoom.{InRoom};
 ghost use Rattle.printing.specs.Printing.{Prints, decimal_text, hex_text, spent, part_text, form_text};

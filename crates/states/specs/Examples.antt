@@ -1,12 +1,11 @@
 -- A state read and printed, computed from the definitions: one table under one claim.
 -- The bytes are ASCII: 32 is a space, 48 `0`, 58 `:`, 69 `E`, 76 `L`, 79 `O`, 83 `S`, 110 `n`, 111 `o`, 112 `p`. Assumes nothing.
 use Rattle.std.specs.Prelude.{ℕ, cond, List, [], ◌∷◌, ◌++◌, T}
-use Rattle.std.specs.Fmt.{digits}
 use Rattle.words.specs.Examples.{Example, same, all_as_stated}
 use Rattle.lines.specs.Reading.{skipped}
 use Rattle.lines.specs.declared.Cursor.TheVariants.{At}
 use Rattle.fields.specs.Fields.{either_at, digit_of, takes, number_from, number_at, set_from, set_at}
-use Rattle.printing.specs.Printing.{last_hex_digits, hex_text, decimal_text, spent, part_text, form_from, form_text}
+use Rattle.printing.specs.Printing.{hex_text, decimal_size, decimal_text, spent, part_text, form_from, form_text}
 use Rattle.record.specs.declared.Memory.{Memory}
 use Rattle.record.specs.declared.Memory.TheVariants.{Long, Short}
 use Rattle.record.specs.declared.Kind.{Kind}
@@ -69,5 +68,5 @@ table =
     ∷ []
 
 pub examples : T (all_as_stated table)
-unfolding all_as_stated same skipped either_at digit_of takes number_from number_at set_from set_at last_hex_digits hex_text digits decimal_text spent part_text form_from form_text head_at two_at mode_at ends_at memory_at splits_at flags_at state_at
+unfolding all_as_stated same skipped either_at digit_of takes number_from number_at set_from set_at hex_text decimal_size decimal_text spent part_text form_from form_text head_at two_at mode_at ends_at memory_at splits_at flags_at state_at
 examples = tt

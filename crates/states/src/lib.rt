@@ -16,21 +16,21 @@ const NON_OVERLAPPING: u8 = b'n';
 const OVERLAPPING: u8 = b'o';
 
 // A mode that was read, and where reading stands behind it. Where that is nowhere, nothing was read.
-#[derive(Drop)]
+#[derive(Clone, Copy)]
 pub struct ReadMode {
     pub mode: Mode,
     pub next: Cursor,
 }
 
 // A state that was read, and whether the line ends behind it. Where it does not, what was read is no state.
-#[derive(Drop)]
+#[derive(Clone, Copy)]
 pub struct Read {
     pub walk: TwoWaySearcher,
     pub whole: bool,
 }
 
 // The letter of each form: a long state, a short one, and that of an empty needle.
-#[derive(Drop)]
+#[derive(Clone, Copy)]
 enum Letter {
     L,
     S,
@@ -38,20 +38,20 @@ enum Letter {
 }
 
 // What was read of it, and where reading stands behind that.
-#[derive(Drop)]
+#[derive(Clone, Copy)]
 struct Head {
     letter: Letter,
     next: Cursor,
 }
 
-#[derive(Drop)]
+#[derive(Clone, Copy)]
 struct Two {
     first: usize,
     second: usize,
     next: Cursor,
 }
 
-#[derive(Drop)]
+#[derive(Clone, Copy)]
 struct Ends {
     needle_len: usize,
     haystack_len: usize,
@@ -61,13 +61,13 @@ struct Ends {
     next: Cursor,
 }
 
-#[derive(Drop)]
+#[derive(Clone, Copy)]
 struct Remembered {
     memory: Memory,
     next: Cursor,
 }
 
-#[derive(Drop)]
+#[derive(Clone, Copy)]
 struct Rest {
     crit_pos: usize,
     crit_pos_back: usize,
