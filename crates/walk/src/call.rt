@@ -7,7 +7,7 @@ use crate::reply::Reply;
 use searcher::{Matched, Mode, NextMatch, Step, Stepped, TwoWaySearcher};
 
 // What a call answers with its counts, comparisons and tests, and the walk behind it.
-#[derive(Drop)]
+#[derive(Clone, Copy)]
 pub(crate) struct Called {
     pub(crate) reply: Reply,
     pub(crate) walk: TwoWaySearcher,

@@ -18,7 +18,7 @@ pub(crate) const LINE_BYTES: usize = 16649;
 pub(crate) const ANSWER_BYTES: usize = 28999;
 
 // The lengths of a line's words, and where reading stands behind them.
-#[derive(Drop)]
+#[derive(Clone, Copy)]
 struct Words {
     needle: usize,
     haystack: usize,

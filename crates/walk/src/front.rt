@@ -4,7 +4,7 @@ ghost use Rattle.printing.specs.InRoom.{InRoom};
 
 use limits::Refusal;
 
-#[derive(Drop)]
+#[derive(Clone, Copy)]
 pub(crate) enum Front {
     Bad,
     Ok,
@@ -20,7 +20,7 @@ pub(crate) enum Front {
 const FORMS: [u8; 54] = *b" bad line ok none done at:# match:#:# reject:#:# ref:#";
 
 // A form: where it starts and ends among its like, and two numbers for its marks.
-#[derive(Drop)]
+#[derive(Clone, Copy)]
 struct Spelled(usize, usize, usize, usize);
 
 fn spell(front: Front) -> Spelled

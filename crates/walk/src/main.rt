@@ -1,5 +1,6 @@
 // Reads case lines from standard input to its end, and writes one answer line for each.
 #![tactic(auto)]
+
 mod call;
 mod case;
 mod front;
@@ -7,12 +8,15 @@ mod name;
 mod reply;
 mod walk;
 
-ghost use Rattle.std.specs.Prelude.{◌≤◌, length};
+ghost use Rattle.std.specs.Prelude.{◌≤◌, length, IfOk};
 
-use libc::{STDIN_FILENO, STDOUT_FILENO};
+use std::io::{self, Read, Write};
+
+// The most bytes that are read at once.
+const PART_BYTES: usize = 4096;
 
 // How many bytes of the next line are there, and whether to read on.
-#[derive(Drop)]
+#[derive(Clone, Copy)]
 struct Taken {
     at: usize,
     more: bool,
@@ -32,13 +36,13 @@ fn without_return(line: &[u8]) -> usize
     n
 }
 
-// Answers a line; false where the answer can't be written.
-fn answer(line: &[u8]) -> bool {
+// Answers a line.
+fn answer(output: &mut impl Write, line: &[u8]) -> io::Result<()> {
     let mut out = [0u8; case::ANSWER_BYTES];
     let end = without_return(line);
     let at = case::answer(&line[0..end], &mut out);
     out[at] = b'\n';
-    io::write_all(STDOUT_FILENO, &out[1..at + 1])
+    output.write_all(&out[1..at + 1])
 }
 
 // Puts a byte behind what there is of a line. A line that is too long leaves `line` full: what is behind that is left out.
@@ -53,64 +57,60 @@ fn keep(line: &mut [u8], at: usize, b: u8) -> usize
     at + 1
 }
 
-// Takes a part of the input in, and answers each line that it ends.
-fn take(part: &[u8], line: &mut [u8], start: usize) -> Taken
+// Takes a part of the input in, and answers each line that it ends. Gives how many bytes of the next line are there.
+fn take(output: &mut impl Write, part: &[u8], line: &mut [u8], start: usize) -> io::Result<usize>
     requires { start ≤ length line.old }
-    ensures { result.at ≤ length line.new }
+    ensures { IfOk result (λ at. at ≤ length line.new) }
 {
     let mut at = start;
-    let mut i = 0;
-    while i < part.len() {
-        let b = part[i];
-        i += 1;
-        if b != b'\n' {
-            at = keep(line, at, b);
+    for b in part {
+        if *b != b'\n' {
+            at = keep(line, at, *b);
             continue;
         }
-        if !answer(&line[0..at]) {
-            return Taken { at: 0, more: false };
-        }
+        answer(output, &line[0..at])?;
         at = 0;
     }
-    Taken { at, more: true }
+    Ok(at)
 }
 
 // Reads once. At the end of the input, what there is of a line is a line.
-fn read_some(line: &mut [u8], at: usize) -> Taken
+fn read_some(
+    input: &mut impl Read,
+    output: &mut impl Write,
+    line: &mut [u8],
+    at: usize,
+) -> io::Result<Taken>
     requires { at ≤ length line.old }
-    ensures { result.at ≤ length line.new }
+    ensures { IfOk result (λ taken. taken.at ≤ length line.new) }
 {
-    let mut part = io::buffer();
-    let got = libc::read(STDIN_FILENO, &mut part);
-    if got < 0 {
-        return Taken { at, more: false };
-    }
-    if got == 0 {
+    let mut part = [0u8; PART_BYTES];
+    let n = input.read(&mut part)?;
+    if n == 0 {
         if 0 < at {
-            answer(&line[0..at]);
+            answer(output, &line[0..at])?;
         }
-        return Taken { at, more: false };
+        return Ok(Taken { at, more: false });
     }
-    let n = io::count(got, &part);
-    take(&part[..n], line, at)
+    let at = take(output, &part[..n], line, at)?;
+    Ok(Taken { at, more: true })
 }
 
-// A proved loop has to end, and nothing says that the input does. So it counts its reads down, from a number that no run uses up.
-fn run(line: &mut [u8]) {
+// A proved loop has to end, and nothing says that the input does. So it counts its reads, up to a number that no run uses up.
+fn run(input: &mut impl Read, output: &mut impl Write, line: &mut [u8]) -> io::Result<()> {
     let mut at = 0;
-    let mut reads = u64::MAX;
-    while reads > 0 {
-        let taken = read_some(line, at);
+    for _ in 0..u64::MAX {
+        let taken = read_some(input, output, line, at)?;
         if !taken.more {
             break;
         }
         at = taken.at;
-        reads -= 1;
     }
+    Ok(())
 }
 
-fn main() {
+fn main(rt: HostRuntime) -> io::Result<()> {
     // A line may have a carriage return behind it, and is too long if it fills the rest too.
     let mut line = [0u8; case::LINE_BYTES + 2];
-    run(&mut line);
+    run(&mut rt.reader(), &mut io::writer(&rt), &mut line)
 }

@@ -10,7 +10,7 @@ use suffix::{ReverseAnswer, SuffixAnswer};
 use twoway::{Answer, Position};
 
 // Of the three counts the first `numbers` are there.
-#[derive(Drop)]
+#[derive(Clone, Copy)]
 pub(crate) struct Reply {
     pub(crate) front: Front,
     pub(crate) first: usize,
