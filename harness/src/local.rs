@@ -63,21 +63,19 @@ fn row(letters: &[u8], word: &[u8]) -> String {
     format!("    record {{ computed = periods ({}); stated = {stated} }}", list(word))
 }
 
-/// A file of `crates/words/specs` in which the prover computes the same for each word.
+/// A file for `proofs/` of the crate words, in which the prover computes the same for each word.
 pub fn table(sizes: Sizes) -> impl Iterator<Item = String> {
     let head = [
         "-- Smallest and local periods, computed from the definitions, beside those of brute force.",
-        "use Prim.Native.Nat.{ℕ}",
-        "use mathlib.Core.List.{List, [], _∷_}",
-        "use lib.Dec.{T}",
-        "use Rattle·words·specs.specs.Word.{front}",
-        "use Rattle·words·specs.specs.Choice.{every, firstFrom}",
-        "use Rattle·words·specs.specs.Listed.{passing}",
-        "use Rattle·words·specs.specs.Period.{periodb, smallestPeriod, localRepeatb, localPeriod}",
-        "use Rattle·words·specs.specs.Examples.{locals, same, all-as-stated}",
+        "use Rattle.std.specs.Prelude.{ℕ, List, [], ◌∷◌, T}",
+        "use Rattle.words.specs.Word.{front}",
+        "use Rattle.words.specs.Choice.{every, first_from}",
+        "use Rattle.words.specs.Listed.{passing}",
+        "use Rattle.words.specs.Period.{periodb, smallest_period, local_repeatb, local_period}",
+        "use Rattle.words.specs.Examples.{locals, same, all_as_stated}",
         "",
         "abbrev periods : List ℕ → List ℕ",
-        "periods w = smallestPeriod (front w) ∷ locals w",
+        "periods w = smallest_period (front w) ∷ locals w",
     ];
     let rows =
         sizes.into_iter().flat_map(|letters| words(letters).map(move |word| row(letters.0, &word)));
@@ -87,9 +85,9 @@ pub fn table(sizes: Sizes) -> impl Iterator<Item = String> {
 }
 
 fn claim((number, rows): (usize, &[String])) -> String {
-    let unfolding = "all-as-stated same passing smallestPeriod periodb localPeriod localRepeatb";
+    let unfolding = "all_as_stated same passing smallest_period periodb local_period local_repeatb";
     format!(
-        "\npub words-{number} : T (all-as-stated (\n{}\n    ∷ []))\nunfolding {unfolding} every firstFrom\nwords-{number} = tt",
+        "\npub words_{number} : T (all_as_stated (\n{}\n    ∷ []))\nunfolding {unfolding} every first_from\nwords_{number} = tt",
         rows.join(" ∷\n")
     )
 }
