@@ -169,7 +169,7 @@ fn c_library() -> Done {
         objcopy.arg("--set-section-alignment").arg(".text*=64");
         said(objcopy.arg(archive).arg(out("libtwoway.a")))?;
     } else {
-        println!("cargo::warning=no target/staticlib/libtwoway.a: `harness/build` writes it");
+        println!("cargo::warning=no target/staticlib/libtwoway.a: `tools/library` writes it");
     }
     Ok(())
 }

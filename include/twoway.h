@@ -2,7 +2,7 @@
  * twoway: finding a pattern in a text, from the front and from the back.
  *
  * The functions stand in target/staticlib/libtwoway.a, for Linux on x86-64, which
- * `rt staticlib twoway` writes. They read the bytes that they are given, allocate nothing, print
+ * `tools/library` writes. They read the bytes that they are given, allocate nothing, print
  * nothing and keep nothing between calls, so they may run in several threads at once.
  *
  * Each answers a position, counted in bytes from the text's first byte (which is 0), or one of
