@@ -8,7 +8,7 @@ mod name;
 mod reply;
 mod walk;
 
-ghost use Rattle.std.specs.Prelude.{◌≤◌, length, IfOk};
+ghost use Rattle.std.specs.Prelude.{◌≡◌, ◌≤◌, length, IfOk, OnErr};
 
 use std::io::{self, Read, Write};
 
@@ -60,7 +60,8 @@ fn keep(line: &mut [u8], at: usize, b: u8) -> usize
 // Takes a part of the input in, and answers each line that it ends. Gives how many bytes of the next line are there.
 fn take(output: &mut impl Write, part: &[u8], line: &mut [u8], start: usize) -> io::Result<usize>
     requires { start ≤ length line.old }
-    ensures { IfOk result (λ at. at ≤ length line.new) }
+    ensures ok { IfOk result (λ at. at ≤ length line.new) }
+    ensures err { OnErr result (length line.new ≡ length line.old) }
 {
     let mut at = start;
     for b in part {
@@ -82,7 +83,8 @@ fn read_some(
     at: usize,
 ) -> io::Result<Taken>
     requires { at ≤ length line.old }
-    ensures { IfOk result (λ taken. taken.at ≤ length line.new) }
+    ensures ok { IfOk result (λ taken. taken.at ≤ length line.new) }
+    ensures err { OnErr result (length line.new ≡ length line.old) }
 {
     let mut part = [0u8; PART_BYTES];
     let n = input.read(&mut part)?;
