@@ -10,7 +10,7 @@ pub overflow_add-split : goal.overflow_add-split
 overflow_add-split c = omega (arith, needle_room)
 
 pub returns-then-agreed-c : goal.returns-then-agreed-c
-returns-then-agreed-c c = search (rules, steps_long)
+returns-then-agreed-c c = steps_long _ (omega arith) c.choose-split.ensures.choice c.agree-agreed.ensures _ _ c.long.ensures c.if-agreed-c.true
 
 pub overflow_add-split-2 : goal.overflow_add-split-2
 overflow_add-split-2 c = omega (arith, needle_room)
