@@ -2,7 +2,7 @@
 -- Assumes nothing.
 use Prim.Native.Nat.{ℕ, ◌+◌, ◌-◌, ◌<◌}
 use mathlib.Core.Path.{◌≡◌, refl}
-use mathlib.Core.Option.{Option, none, some}
+use Rattle.std.specs.Prelude.{Option, None, Some}
 use native.Mathlib.Omega.{arith}
 use Rattle.words.specs.Word.{Word, mirror}
 use Rattle.words.specs.Choice.{FindsLeast}
@@ -69,11 +69,11 @@ module _ (x h : Word) where
 -- where P and Q hold of the same places, an answer says the same of both
 module _ (P Q : ℕ → Type 0) (to : (j : ℕ) → P j → Q j) (from : (j : ℕ) → Q j → P j) (m : ℕ) where
   pub least_answer_same : (a : Said (Option (ℕ × ℕ))) → AnswersLeast P m a → AnswersLeast Q m a
-  least_answer_same (given (some (k, e))) l = (least_same to from l.0, l.1)
-  least_answer_same (given none) l = λ j q. l j (from j q)
+  least_answer_same (given (Some (k, e))) l = (least_same to from l.0, l.1)
+  least_answer_same (given None) l = λ j q. l j (from j q)
   least_answer_same (refused number) l = l
 
   pub greatest_answer_same : (a : Said (Option (ℕ × ℕ))) → AnswersGreatest P m a → AnswersGreatest Q m a
-  greatest_answer_same (given (some (k, e))) g = (greatest_same to from g.0, g.1)
-  greatest_answer_same (given none) l = λ j q. l j (from j q)
+  greatest_answer_same (given (Some (k, e))) g = (greatest_same to from g.0, g.1)
+  greatest_answer_same (given None) l = λ j q. l j (from j q)
   greatest_answer_same (refused number) g = g

@@ -8,7 +8,7 @@ use native.Mathlib.Omega.{arith}
 use native.Mathlib.Decide.{dec_lt}
 use lib.ListN.{length}
 use Rattle.words.specs.Word.{Word, front}
-use Rattle.words.specs.Choice.{None}
+use Rattle.words.specs.Choice.{Nowhere}
 use Rattle.words.specs.Occurs.{OccursBelow, Leftmost, Rightmost}
 use Rattle.record.specs.declared.Fixed.{Fixed}
 use Rattle.record.specs.declared.Moving.{Moving}
@@ -26,7 +26,7 @@ use Rattle.demands.proofs.Start.{prepared_ready}
 use Rattle.demands.proofs.Meaning.{gap_one, demand_2}
 
 module _ (x h : Word) (blank : x.size ≡ 0) where
-  nothing_low : None (OccursBelow x h 0)
+  nothing_low : Nowhere (OccursBelow x h 0)
   nothing_low j o = let hi = o.0 in omega arith
 
   -- the places from a on, and those below b, are such a list

@@ -10,7 +10,7 @@ use native.Mathlib.Omega.{arith}
 use native.Mathlib.Decide.{ℕ_discrete}
 use lib.ListN.{length}
 use Rattle.words.specs.Word.{Word, front, mirror}
-use Rattle.words.specs.Choice.{Greatest, None}
+use Rattle.words.specs.Choice.{Greatest, Nowhere}
 use Rattle.words.specs.Occurs.{Occurs, OccursFrom, OccursBelow, Leftmost, Rightmost, mirrored}
 use Rattle.words.proofs.Mirror.{Facing, rightmost_mirror, leftmost_mirror, rightmost_mirrored}
 use Rattle.byteset.specs.Fingerprint.{has}
@@ -122,7 +122,7 @@ module _ (needle haystack : List ℕ) (mode : Mode) (ok : Allowed needle haystac
         (answers_least x h s.position (forward false needle haystack f s).stop (holds_next forward_holds))
 
     -- at the haystack's end there is no room for the needle, which has a letter
-    at_end : s.position ≡ h.size → None (OccursFrom x h s.position)
+    at_end : s.position ≡ h.size → Nowhere (OccursFrom x h s.position)
     at_end e j o = omega (arith, o.0, o.1.fits)
 
     two_way_step : overlaps mode ≡ false → NextMeans needle haystack H
@@ -163,7 +163,7 @@ module _ (needle haystack : List ℕ) (mode : Mode) (ok : Allowed needle haystac
         rw (below_is, next_match_back_walked needle haystack ok f s reach.fit reach.two_way)
         (answers_greatest x h below _ facing (backward_mirrored needle haystack ok f s reach.fit reach.two_way false).stops (holds_next backward_holds))
 
-    at_front : s.end ≡ 0 → None (OccursBelow x h below)
+    at_front : s.end ≡ 0 → Nowhere (OccursBelow x h below)
     at_front e j o = omega (arith, o.0)
 
     two_way_step_back : overlaps mode ≡ false → NextBackMeans needle haystack H
@@ -282,10 +282,10 @@ module _ (needle haystack : List ℕ) (mode : Mode) (ok : Allowed needle haystac
 
   -- ---- once nothing is left, nothing was left out
 
-  forward_done : (next_rule needle haystack H.walk).answer ≡ given done → None (OccursFrom x h (open_from s))
+  forward_done : (next_rule needle haystack H.walk).answer ≡ given done → Nowhere (OccursFrom x h (open_from s))
   forward_done e = go (overlaps mode) refl
     where
-      go : (b : Bool) → overlaps mode ≡ b → None (OccursFrom x h (open_from s))
+      go : (b : Bool) → overlaps mode ≡ b → Nowhere (OccursFrom x h (open_from s))
       go false apart = (subst (StepMeans x h (open_from s) s.position _) e (means.step_means apart)).2
       go true may = let q = (fits_stays needle haystack ok H.walk means.fit).next.overlapping (rw mode_is may) in let z : ◌≡◌ {A = ℕ} 0 1 = cc in absurd (omega arith)
 
@@ -295,10 +295,10 @@ module _ (needle haystack : List ℕ) (mode : Mode) (ok : Allowed needle haystac
       (means.forward_list []
       (Leftmost.over (⊎_elim (λ e. subst (AnswersLeast (OccursFrom x h (open_from s)) x.size) e means.next_match_means) forward_done e)))
 
-  backward_done : (next_back_rule needle haystack H.walk).answer ≡ given done → None (OccursBelow x h (open_below (length needle) s))
+  backward_done : (next_back_rule needle haystack H.walk).answer ≡ given done → Nowhere (OccursBelow x h (open_below (length needle) s))
   backward_done e = go (overlaps mode) refl
     where
-      go : (b : Bool) → overlaps mode ≡ b → None (OccursBelow x h (open_below (length needle) s))
+      go : (b : Bool) → overlaps mode ≡ b → Nowhere (OccursBelow x h (open_below (length needle) s))
       go false apart = (subst (StepBackMeans x h (open_below (length needle) s) s.end _) e (means.step_back_means apart)).2
       go true may = let q = (fits_stays needle haystack ok H.walk means.fit).next_back.overlapping (rw mode_is may) in let z : ◌≡◌ {A = ℕ} 0 1 = cc in absurd (omega arith)
 

@@ -10,7 +10,7 @@ use mathlib.Core.List.{List, [], ◌∷◌, ◌++◌}
 use native.Mathlib.Omega.{arith}
 use lib.ListN.{length}
 use Rattle.words.specs.Word.{Word, front}
-use Rattle.words.specs.Choice.{Least, Greatest, None}
+use Rattle.words.specs.Choice.{Least, Greatest, Nowhere}
 use Rattle.words.specs.Occurs.{Occurs, OccursFrom, OccursBelow, Leftmost, Rightmost}
 use Rattle.empty.specs.declared.Turned.{Turned}
 use Rattle.empty.proofs.Laws.{by_turn}
@@ -38,7 +38,7 @@ module _ (x h : Word) (blank : x.size ≡ 0) where
   pub least_here : (k : ℕ) → k ≤ h.size → Least (OccursFrom x h k) k
   least_here k inside = record { holds = (omega arith, stands k inside); none_before = λ j before o. let lo = o.0 in omega arith }
 
-  pub none_past : (a : ℕ) → h.size < a → None (OccursFrom x h a)
+  pub none_past : (a : ℕ) → h.size < a → Nowhere (OccursFrom x h a)
   none_past a past j o = let lo = o.0 in let fits = o.1.fits in omega arith
 
   pub greatest_here : (k : ℕ) → k ≤ h.size → Greatest (OccursBelow x h (k + 1)) k

@@ -1,9 +1,9 @@
 -- Demand 2: what the answers and the matches of a walk mean, in the haystack's own places.
 -- Assumes nothing.
 use Rattle.std.specs.Prelude.{ℕ, zero, suc, ◌+◌, ◌-◌, ◌<◌, ◌≤◌, max, ◌≡◌, ◌⊎◌, List, [], ◌∷◌, ◌++◌, false, cond, length}
-use Rattle.std.proofs.Math.Option.{Option, none, some}
+use Rattle.std.specs.Prelude.{Option, None, Some}
 use Rattle.words.specs.Word.{Word, front}
-use Rattle.words.specs.Choice.{Least, Greatest, None}
+use Rattle.words.specs.Choice.{Least, Greatest, Nowhere}
 use Rattle.words.specs.Occurs.{Occurs, OccursFrom, OccursBelow, Leftmost, Rightmost}
 use Rattle.limits.specs.Said.{Said, refused, given}
 use Rattle.record.specs.declared.Mode.{Mode}
@@ -16,14 +16,14 @@ use Rattle.demands.specs.Reached.{Call, History, reached}
 
 -- a next match, for a needle of m bytes: the least of the places that have P, and nothing exactly if there is none
 abbrev pub AnswersLeast : (ℕ → Type 0) → ℕ → Said (Option (ℕ × ℕ)) → Type 0
-AnswersLeast P m (given (some (k, e))) = Least P k × (e ≡ k + m)
-AnswersLeast P m (given none) = None P
+AnswersLeast P m (given (Some (k, e))) = Least P k × (e ≡ k + m)
+AnswersLeast P m (given None) = Nowhere P
 AnswersLeast P m (refused number) = ⊥
 
 -- the same of the greatest
 abbrev pub AnswersGreatest : (ℕ → Type 0) → ℕ → Said (Option (ℕ × ℕ)) → Type 0
-AnswersGreatest P m (given (some (k, e))) = Greatest P k × (e ≡ k + m)
-AnswersGreatest P m (given none) = None P
+AnswersGreatest P m (given (Some (k, e))) = Greatest P k × (e ≡ k + m)
+AnswersGreatest P m (given None) = Nowhere P
 AnswersGreatest P m (refused number) = ⊥
 
 -- A step forward, with `position` before and after it, and the places from `from` on still to be given. It settles the part between the two,
@@ -33,7 +33,7 @@ abbrev pub StepMeans : Word → Word → ℕ → ℕ → ℕ → Said StepTerm �
 StepMeans x h from before after (given (match a e)) = (a ≡ before) × (e ≡ after) × (e ≡ a + x.size) × OccursFrom x h from a
 StepMeans x h from before after (given (reject a e)) =
     (a ≡ before) × (e ≡ after) × (a < e) × ((j : ℕ) → from ≤ j → j < e → Occurs x h j → ⊥)
-StepMeans x h from before after (given done) = (before ≡ h.size) × (after ≡ before) × None (OccursFrom x h from)
+StepMeans x h from before after (given done) = (before ≡ h.size) × (after ≡ before) × Nowhere (OccursFrom x h from)
 StepMeans x h from before after (refused number) = ⊥
 
 -- A step backward, with `end` before and after it, and the places below `below` still to be given: in a Reject none of these ends.
@@ -41,7 +41,7 @@ abbrev pub StepBackMeans : Word → Word → ℕ → ℕ → ℕ → Said StepTe
 StepBackMeans x h below before after (given (match a e)) = (e ≡ before) × (a ≡ after) × (e ≡ a + x.size) × OccursBelow x h below a
 StepBackMeans x h below before after (given (reject a e)) =
     (e ≡ before) × (a ≡ after) × (a < e) × ((j : ℕ) → a < j + x.size → j < below → Occurs x h j → ⊥)
-StepBackMeans x h below before after (given done) = (before ≡ 0) × (after ≡ before) × None (OccursBelow x h below)
+StepBackMeans x h below before after (given done) = (before ≡ 0) × (after ≡ before) × Nowhere (OccursBelow x h below)
 StepBackMeans x h below before after (refused number) = ⊥
 
 -- ---- a history of calls
@@ -91,7 +91,7 @@ module _ (needle haystack : List ℕ) (H : History) where
     -- once a next match has nothing to give, or a step is Done, they are the whole list
     abbrev pub ForwardNone : Type 0
     ForwardNone =
-        ((next_match_rule needle haystack H.walk).answer ≡ given none) ⊎ ((next_rule needle haystack H.walk).answer ≡ given done)
+        ((next_match_rule needle haystack H.walk).answer ≡ given None) ⊎ ((next_rule needle haystack H.walk).answer ≡ given done)
         → Leftmost x h gap 0 H.forward.matches
 
     -- the same backward: the greedy rightmost ones
@@ -100,7 +100,7 @@ module _ (needle haystack : List ℕ) (H : History) where
 
     abbrev pub BackwardNone : Type 0
     BackwardNone =
-        ((next_match_back_rule needle haystack H.walk).answer ≡ given none) ⊎ ((next_back_rule needle haystack H.walk).answer ≡ given done)
+        ((next_match_back_rule needle haystack H.walk).answer ≡ given None) ⊎ ((next_back_rule needle haystack H.walk).answer ≡ given done)
         → Rightmost x h gap (h.size + 1) H.backward.matches
 
 -- ---- whole searches: the first next match from preparing on

@@ -2,7 +2,7 @@
 -- with the matches that were given and the comparisons and tests that were made, in each direction. Executable.
 -- Assumes nothing.
 use Rattle.std.specs.Prelude.{ℕ, ◌+◌, List, [], ◌∷◌, ◌++◌, length}
-use Rattle.std.proofs.Math.Option.{Option, none, some}
+use Rattle.std.specs.Prelude.{Option, None, Some}
 use Rattle.limits.specs.Said.{Said, refused, given}
 use Rattle.searcher.specs.Walk.{StepTerm, match, reject, done, new_rule, next_rule, next_back_rule, next_match_rule, next_match_back_rule}
 use Rattle.searcher.specs.declared.TwoWaySearcher.{TwoWaySearcher}
@@ -34,8 +34,8 @@ step_matches (given done) = []
 step_matches (refused number) = []
 
 abbrev pub next_matches : Said (Option (ℕ × ℕ)) → List ℕ
-next_matches (given (some (a, b))) = a ∷ []
-next_matches (given none) = []
+next_matches (given (Some (a, b))) = a ∷ []
+next_matches (given None) = []
 next_matches (refused number) = []
 
 abbrev pub nothing_made : Made

@@ -5,7 +5,8 @@ use mathlib.Core.Path.{◌≡◌, refl, sym, ◌∙◌, ap}
 use mathlib.Core.Bool.{cond}
 use lib.Dec.{eqb}
 use Rattle.limits.specs.Refusals.{number_of}
-use Rattle.limits.specs.Said.{LosesNothing}
+use Rattle.std.specs.Prelude.{Result, Ok, Err}
+use Rattle.limits.specs.Said.{Said, refused, given, said, LosesNothing}
 use Rattle.limits.specs.declared.Refusal.{Refusal}
 use Rattle.limits.specs.declared.Refusal.TheVariants.{HaystackTooLong, NeedleTooLong, EmptyNeedle, StateDoesNotFit, StepOverlapping}
 
@@ -24,3 +25,15 @@ refusal_again StepOverlapping = refl
 
 pub number_loses_nothing : LosesNothing number_of
 number_loses_nothing = by_way_back number_of refusal_of refusal_again
+
+-- what an answer says loses nothing, whatever it gives
+pub said_loses_nothing : {A : Type 0} → LosesNothing (said {A = A})
+said_loses_nothing {A} = by_way_back said back again
+  where
+    back : Said A → Result A Refusal
+    back (given a) = Ok a
+    back (refused number) = Err (refusal_of number)
+
+    again : (r : Result A Refusal) → back (said r) ≡ r
+    again (Ok a) = refl
+    again (Err why) = ap (λ w. Err w) (refusal_again why)

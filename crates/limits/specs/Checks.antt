@@ -1,19 +1,22 @@
 -- The checks of 01's table "Refusal numbers": what each comes to, what a row of them comes to, and what the two on lengths say.
 -- Assumes nothing.
-use Rattle.std.specs.Prelude.{ℕ, ◌<◌, ◌≤◌, ◌≡◌, ◌⊎◌, Bool, cond, ltb}
+use Rattle.std.specs.Prelude.{ℕ, ◌<◌, ◌≤◌, ◌≡◌, ◌⊎◌, Bool, cond, ltb, Result, Ok, Err}
 use Rattle.limits.specs.Bounds.{haystack_bound, needle_bound}
-use Rattle.limits.specs.declared.Check.{Check}
 use Rattle.limits.specs.declared.Refusal.{Refusal}
 use Rattle.limits.specs.declared.Refusal.TheVariants.{HaystackTooLong, NeedleTooLong}
 
+-- what a check comes to: nothing refuses, or what does
+abbrev pub Check : Type 0
+Check = Result (Unit {0}) Refusal
+
 -- one check: it refuses where its test says so
 abbrev pub refuse_if : Bool → Refusal → Check
-refuse_if test why = cond test (Check.Refuse why) Check.Pass
+refuse_if test why = cond test (Err why) (Ok tt)
 
 -- "the first that applies is the answer"
 abbrev pub and_then : Check → Check → Check
-and_then Check.Pass next = next
-and_then (Check.Refuse why) next = Check.Refuse why
+and_then (Ok passed) next = next
+and_then (Err why) next = Err why
 
 -- "Checks run in the order 1, 2, 3, 4": the first two, of a haystack of n bytes and a needle of m
 unfoldable pub lengths : ℕ → ℕ → Check

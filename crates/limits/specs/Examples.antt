@@ -1,16 +1,15 @@
 -- Examples of the checks, computed from their definitions: one table under one claim.
 -- Assumes nothing.
-use Rattle.std.specs.Prelude.{ℕ, List, [], ◌∷◌, T}
+use Rattle.std.specs.Prelude.{ℕ, Ok, Err, List, [], ◌∷◌, T}
 use Rattle.words.specs.Examples.{Example, same, all_as_stated}
 use Rattle.limits.specs.Bounds.{haystack_bound, needle_bound}
 use Rattle.limits.specs.Refusals.{number_of}
-use Rattle.limits.specs.Checks.{lengths}
-use Rattle.limits.specs.declared.Check.{Check}
+use Rattle.limits.specs.Checks.{Check, lengths}
 
 -- a refusal is written by its number, and 0 says that nothing refuses
 abbrev pub answer : Check → ℕ
-answer Check.Pass = 0
-answer (Check.Refuse why) = number_of why
+answer (Ok passed) = 0
+answer (Err why) = number_of why
 
 abbrev pub table : List Example
 table =

@@ -10,34 +10,22 @@ pub const HAYSTACK_BOUND: usize = 67_108_864;
 
 pub const NEEDLE_BOUND: usize = 65_536;
 
-// Why a public call refuses. Nothing else is refused. No call refuses an empty needle now; the number stays, for a call to come.
+// Why a public call refuses, with the number that it is given by. Nothing else is refused. No call refuses an empty needle now; the
+// number stays, for a call to come.
 #[derive(Clone, Copy)]
 pub enum Refusal {
-    HaystackTooLong,
-    NeedleTooLong,
-    EmptyNeedle,
-    StateDoesNotFit,
-    StepOverlapping,
+    HaystackTooLong = 1,
+    NeedleTooLong = 2,
+    EmptyNeedle = 3,
+    StateDoesNotFit = 4,
+    StepOverlapping = 5,
 }
 
 // The number that a refusal is given by.
 pub fn number(refusal: Refusal) -> u8
     ensures { result ≡ number_of refusal }
 {
-    match refusal {
-        Refusal::HaystackTooLong => 1,
-        Refusal::NeedleTooLong => 2,
-        Refusal::EmptyNeedle => 3,
-        Refusal::StateDoesNotFit => 4,
-        Refusal::StepOverlapping => 5,
-    }
-}
-
-// What a row of checks comes to: nothing refuses, or the first check that does.
-#[derive(Clone, Copy)]
-pub enum Check {
-    Pass,
-    Refuse(Refusal),
+    refusal as u8
 }
 
 // Callers ask the two functions below and never compare with a bound themselves, so that a bound stands in one place.
@@ -55,14 +43,14 @@ pub fn needle_too_long(m: usize) -> bool
 }
 
 // Checks 1 and 2: the lengths are within the bounds, or the first that is not refuses.
-pub fn check_lengths(n: usize, m: usize) -> Check
+pub fn check_lengths(n: usize, m: usize) -> Result<(), Refusal>
     ensures { result ≡ lengths n m }
 {
     if haystack_too_long(n) {
-        return Check::Refuse(Refusal::HaystackTooLong);
+        return Err(Refusal::HaystackTooLong);
     }
     if needle_too_long(m) {
-        return Check::Refuse(Refusal::NeedleTooLong);
+        return Err(Refusal::NeedleTooLong);
     }
-    Check::Pass
+    Ok(())
 }

@@ -6,7 +6,7 @@ use mathlib.Core.Path.{◌≡◌, refl, sym, ◌∙◌}
 use mathlib.Core.Bool.{Bool, true, false, cond, not}
 use mathlib.Core.Logic.{inl, inr}
 use mathlib.Core.List.{List}
-use mathlib.Core.Option.{none, some}
+use Rattle.std.specs.Prelude.{None, Some}
 use native.Mathlib.Omega.{arith}
 use lib.Dec.{ltb, eqb}
 use lib.ListN.{length, get_or, take, drop, length-drop}
@@ -37,10 +37,10 @@ module _ (needle : List ℕ) where
   chosen_split pos = go (ltb higher.start lower.start) refl
     where
       lower : Suffix
-      lower = rounds false (front needle) none
+      lower = rounds false (front needle) None
 
       higher : Suffix
-      higher = rounds true (front needle) none
+      higher = rounds true (front needle) None
 
       go : (b : Bool) → ltb higher.start lower.start ≡ b
           → IsSplit (front needle) (cond {A = Suffix} b lower higher).start (cond {A = Suffix} b lower higher).period
@@ -61,15 +61,15 @@ module _ (needle : List ℕ) where
   pub forward_few : forward_rounds needle ≤ 4 * length needle
   unfolding forward_rounds
   forward_few =
-      let a = few_rounds false (front needle) none in
-      let b = few_rounds true (front needle) none in
+      let a = few_rounds false (front needle) None in
+      let b = few_rounds true (front needle) None in
       omega arith
 
   pub reverse_few : (p : ℕ) → reverse_rounds needle p ≤ 4 * length needle
   unfolding reverse_rounds
   reverse_few p =
-      let a = few_rounds false (back needle) (some p) in
-      let b = few_rounds true (back needle) (some p) in
+      let a = few_rounds false (back needle) (Some p) in
+      let b = few_rounds true (back needle) (Some p) in
       omega arith
 
 -- ---- step 2: the first c letters, and the c letters from q on

@@ -6,7 +6,7 @@ use mathlib.Core.Path.{◌≡◌, refl, ap}
 use mathlib.Core.Bool.{Bool, true, false, cond}
 use mathlib.Core.Logic.{inl, inr}
 use mathlib.Core.List.{List}
-use mathlib.Core.Option.{some}
+use Rattle.std.specs.Prelude.{Some}
 use native.Mathlib.Omega.{arith}
 use native.Mathlib.Decide.{dec_lt}
 use lib.Dec.{ltb, eqb}
@@ -39,7 +39,7 @@ use Rattle.record.proofs.Fitting.{StateFits, decides_fits, two_way_splits}
 
 -- the later start of the reverse passes
 abbrev pub reverse_start : List ℕ → ℕ → ℕ
-reverse_start needle p = max (rounds false (back needle) (some p)).start (rounds true (back needle) (some p)).start
+reverse_start needle p = max (rounds false (back needle) (Some p)).start (rounds true (back needle) (Some p)).start
 
 -- Short: the period p is the word's smallest, and the start d, from the back, is the later one of the word read from the back
 pub record IsShort (x : Word) (c p d : ℕ) : Type 0 where
@@ -61,15 +61,15 @@ pub record IsLong (x : Word) (c : ℕ) : Type 0 where
 reverse_later : (needle : List ℕ) (p : ℕ) → Period (front needle) p → LaterStart (back needle) (reverse_start needle p)
 reverse_later needle p period =
     later_start lower higher
-    (elim (dec_lt (rounds true (back needle) (some p)).start (rounds false (back needle) (some p)).start) [
+    (elim (dec_lt (rounds true (back needle) (Some p)).start (rounds false (back needle) (Some p)).start) [
       | yes h ↦ inl (omega arith)
       | no h ↦ inr (omega arith)
     ])
   where
-    lower : MaximalSuffix false (back needle) (rounds false (back needle) (some p)).start
+    lower : MaximalSuffix false (back needle) (rounds false (back needle) (Some p)).start
     lower = (known_found false (back needle) p (period_mirror (front needle) p period)).maximal
 
-    higher : MaximalSuffix true (back needle) (rounds true (back needle) (some p)).start
+    higher : MaximalSuffix true (back needle) (rounds true (back needle) (Some p)).start
     higher = (known_found true (back needle) p (period_mirror (front needle) p period)).maximal
 
 module _ (needle : List ℕ) where

@@ -4,7 +4,7 @@ use Prim.Native.Nat.{ℕ, ◌+◌, ◌-◌, ◌*◌, ◌<◌, ◌≤◌, min, ma
 use mathlib.Core.Path.{◌≡◌, sym, ◌∙◌, ap, subst}
 use mathlib.Core.Bool.{Bool, true, false}
 use mathlib.Core.List.{List}
-use mathlib.Core.Option.{none, some}
+use Rattle.std.specs.Prelude.{None, Some}
 use native.Mathlib.Nat.{sub-zero, add-sub_cancel_left}
 use native.Mathlib.Omega.{arith}
 use mir.Syntax.{w64}
@@ -41,11 +41,11 @@ use Rattle.prepare.proofs.Ready.{refused_fits_nothing}
 -- ---- the passes, which refuse nothing within the bound
 
 module _ (g : Bool) (needle : List ℕ) (small : length needle ≤ needle_bound) where
-  maximal_is : maximal_rule g needle ≡ given (rounds g (front needle) none)
+  maximal_is : maximal_rule g needle ≡ given (rounds g (front needle) None)
   unfolding maximal_rule
   maximal_is = rw (le-ltb _ _ small)
 
-  pub maximal_found : {r : SuffixAnswer} {s : Suffix} → suffix_said r ≡ maximal_rule g needle → r ≡ SuffixAnswer.Found s → s ≡ rounds g (front needle) none
+  pub maximal_found : {r : SuffixAnswer} {s : Suffix} → suffix_said r ≡ maximal_rule g needle → r ≡ SuffixAnswer.Found s → s ≡ rounds g (front needle) None
   maximal_found e f = let q = sym (ap suffix_said f) ∙ e ∙ maximal_is in cc
 
   pub maximal_not_refused : {r : SuffixAnswer} {s t : Suffix} {why : Refusal} → suffix_said r ≡ maximal_rule g needle → r ≡ SuffixAnswer.Refused why → s ≡ t
@@ -55,11 +55,11 @@ module _ (g : Bool) (needle : List ℕ) (small : length needle ≤ needle_bound)
       absurd (omega arith)
 
   module _ (known : ℕ) where
-    reverse_is : reverse_rule g known needle ≡ given (to_reverse (rounds g (back needle) (some known)))
+    reverse_is : reverse_rule g known needle ≡ given (to_reverse (rounds g (back needle) (Some known)))
     unfolding reverse_rule
     reverse_is = rw (le-ltb _ _ small)
 
-    pub reverse_found : {r : ReverseAnswer} {s : ReverseSuffix} → reverse_said r ≡ reverse_rule g known needle → r ≡ ReverseAnswer.Found s → s ≡ to_reverse (rounds g (back needle) (some known))
+    pub reverse_found : {r : ReverseAnswer} {s : ReverseSuffix} → reverse_said r ≡ reverse_rule g known needle → r ≡ ReverseAnswer.Found s → s ≡ to_reverse (rounds g (back needle) (Some known))
     reverse_found e f = let q = sym (ap reverse_said f) ∙ e ∙ reverse_is in cc
 
     pub reverse_not_refused : {r : ReverseAnswer} {s t : ReverseSuffix} {why : Refusal} → reverse_said r ≡ reverse_rule g known needle → r ≡ ReverseAnswer.Refused why → s ≡ t
@@ -71,10 +71,10 @@ module _ (g : Bool) (needle : List ℕ) (small : length needle ≤ needle_bound)
 -- ---- step 1
 
 -- the period that a pass finds is one of the part from its start on
-pub pass_fits : (g : Bool) (needle : List ℕ) {s : Suffix} → 0 < length needle → s ≡ rounds g (front needle) none → s.period + s.start ≤ length needle
+pub pass_fits : (g : Bool) (needle : List ℕ) {s : Suffix} → 0 < length needle → s ≡ rounds g (front needle) None → s.period + s.start ≤ length needle
 pass_fits g needle pos e = rw e (part_fits (front needle) _ _ ((plain_found g (front needle)).period pos))
 
-module _ (needle : List ℕ) {lower higher : Suffix} (a : lower ≡ rounds false (front needle) none) (b : higher ≡ rounds true (front needle) none) where
+module _ (needle : List ℕ) {lower higher : Suffix} (a : lower ≡ rounds false (front needle) None) (b : higher ≡ rounds true (front needle) None) where
   pub both_few : lower.rounds + higher.rounds ≤ 4 * length needle
   unfolding forward_rounds
   both_few = rw (a, b) (forward_few needle)
@@ -93,7 +93,7 @@ module _ (needle : List ℕ) {lower higher : Suffix} (a : lower ≡ rounds false
 -- ---- step 3
 
 module _ (needle : List ℕ) (p : ℕ) {lower higher : ReverseSuffix} (period : Period (front needle) p) (small : length needle ≤ needle_bound)
-    (a : lower ≡ to_reverse (rounds false (back needle) (some p))) (b : higher ≡ to_reverse (rounds true (back needle) (some p))) where
+    (a : lower ≡ to_reverse (rounds false (back needle) (Some p))) (b : higher ≡ to_reverse (rounds true (back needle) (Some p))) where
   -- with a period of the needle known, a reverse pass finds a suffix, so its start is within the needle
   pub later_in : {later : ℕ} → later ≡ max lower.start higher.start → later ≤ length needle
   later_in e =

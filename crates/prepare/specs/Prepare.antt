@@ -1,7 +1,7 @@
 -- Preparing: 01's "Preparing", step by step, with the preparing count of "Whole searches and counts".
 -- Assumes nothing.
 use Rattle.std.specs.Prelude.{ℕ, ◌+◌, ◌-◌, min, max, ◌≡◌, true, false, cond, List, ltb, eqb, length, take, drop}
-use Rattle.std.proofs.Math.Option.{none, some}
+use Rattle.std.specs.Prelude.{None, Some}
 use Rattle.words.specs.Word.{front, back}
 use Rattle.limits.specs.Checks.{lengths}
 use Rattle.limits.specs.Refusals.{number_of}
@@ -30,8 +30,8 @@ use Rattle.prepare.specs.declared.Parts.{Parts}
 -- 1. "Run both orders of `maximal_suffix`. Take the false order's pair if its start is strictly greater, else the true order's."
 unfoldable pub chosen : List ℕ → Suffix
 chosen needle =
-    let lower = rounds false (front needle) none in
-    let higher = rounds true (front needle) none in
+    let lower = rounds false (front needle) None in
+    let higher = rounds true (front needle) None in
     cond (ltb higher.start lower.start) lower higher
 
 -- 2. "Compare the needle's first c bytes with the c bytes that start at p, left to right, stopping at the first difference."
@@ -40,10 +40,10 @@ agreed needle c p = agree (take c needle) (take c (drop p needle))
 
 -- "Preparing: one for each round of the source's loop in each maximal suffix pass that is run, reverse ones included .., and each pair of step 2."
 unfoldable pub forward_rounds : List ℕ → ℕ
-forward_rounds needle = (rounds false (front needle) none).rounds + (rounds true (front needle) none).rounds
+forward_rounds needle = (rounds false (front needle) None).rounds + (rounds true (front needle) None).rounds
 
 unfoldable pub reverse_rounds : List ℕ → ℕ → ℕ
-reverse_rounds needle p = (rounds false (back needle) (some p)).rounds + (rounds true (back needle) (some p)).rounds
+reverse_rounds needle p = (rounds false (back needle) (Some p)).rounds + (rounds true (back needle) (Some p)).rounds
 
 -- what an answer says: its refusal's number, or that a state is given
 abbrev pub preparation_said : Preparation → Said (Unit {0})
@@ -78,8 +78,8 @@ ready f memory kind k =
 -- "The mode is chosen at preparing." (02 [3]) `before` is what was counted before the reverse passes.
 unfoldable pub prepare_short : List ℕ → ℕ → Mode → ℕ → ℕ → ℕ → PartsTold
 prepare_short needle n mode c p before =
-    let lower = rounds false (back needle) (some p) in
-    let higher = rounds true (back needle) (some p) in
+    let lower = rounds false (back needle) (Some p) in
+    let higher = rounds true (back needle) (Some p) in
     ready
     (record {
       needle_len = length needle;

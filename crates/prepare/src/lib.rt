@@ -2,7 +2,7 @@
 #![tactic(auto)]
 
 ghost use Rattle.std.specs.Prelude.{◌≡◌, ◌+◌, ◌*◌, ◌<◌, ◌≤◌, length};
-ghost use Rattle.std.proofs.Math.Option.{none, some};
+ghost use Rattle.std.specs.Prelude.{None, Some};
 ghost use Rattle.words.specs.Word.{front, back};
 ghost use Rattle.words.specs.Period.{Period};
 ghost use Rattle.limits.specs.Bounds.{needle_bound};
@@ -31,7 +31,7 @@ pub struct Parts {
 // The maximal suffix of a needle that is within the bound, so that nothing is refused.
 fn maximal(needle: &[u8], order_greater: bool) -> Suffix
     requires { length needle.now ≤ needle_bound }
-    ensures { result ≡ rounds order_greater (front needle.now) none }
+    ensures { result ≡ rounds order_greater (front needle.now) None }
 {
     match suffix::maximal_suffix(needle, order_greater) {
         SuffixAnswer::Found(s) => s,
@@ -46,7 +46,7 @@ fn maximal(needle: &[u8], order_greater: bool) -> Suffix
 // The same from the back, with the needle's period known.
 fn reverse_maximal(needle: &[u8], period: usize, order_greater: bool) -> ReverseSuffix
     requires { length needle.now ≤ needle_bound }
-    ensures { result ≡ to_reverse (rounds order_greater (back needle.now) (some period)) }
+    ensures { result ≡ to_reverse (rounds order_greater (back needle.now) (Some period)) }
 {
     match suffix::reverse_maximal_suffix(needle, period, order_greater) {
         ReverseAnswer::Found(s) => s,

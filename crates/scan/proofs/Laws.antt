@@ -4,13 +4,13 @@ use Prim.Native.Nat.{ℕ, ◌+◌, ◌-◌, ◌<◌, ◌≤◌}
 use mathlib.Core.Path.{◌≡◌, refl, sym, ◌∙◌, ap, subst}
 use mathlib.Core.Bool.{Bool, true, false, cond}
 use mathlib.Core.List.{List, [], ◌∷◌}
-use mathlib.Core.Option.{Option, none, some}
+use Rattle.std.specs.Prelude.{Option, None, Some}
 use native.Mathlib.Omega.{arith}
 use lib.Dec.{ltb}
 use lib.ListN.{length, get_or}
 use borrow.Author.Tests.{lt-ltb, le-ltb, ltb-true, ltb-false, eqb-true, eqb-false}
 use Rattle.words.specs.Word.{Word, front, back}
-use Rattle.words.specs.Choice.{Least, Greatest, None, FindsLeast, FindsGreatest}
+use Rattle.words.specs.Choice.{Least, Greatest, Nowhere, FindsLeast, FindsGreatest}
 use Rattle.words.specs.Occurs.{Occurs}
 use Rattle.scan.proofs.Passes.{first}
 use Rattle.scan.specs.Scanned.{place_of, ScanTold, before, scanned, from_front, from_back}
@@ -24,12 +24,12 @@ record Missed (x : ℕ) (w : Word) (k : ℕ) : Type 0 where
 
 module _ (x : ℕ) (w : Word) (place : ℕ → ℕ) where
   -- a scan that has passed all letters before the first x, and stands at it
-  scanned_hit : {k : ℕ} → k ≤ before x w → before x w < k + 1 → k < w.size → scanned x w place ≡ record { place = some (place k); comparisons = k + 1 }
+  scanned_hit : {k : ℕ} → k ≤ before x w → before x w < k + 1 → k < w.size → scanned x w place ≡ record { place = Some (place k); comparisons = k + 1 }
   unfolding scanned
   scanned_hit {k} low high h = let here : before x w ≡ k = omega arith in rw (here, lt-ltb k w.size h)
 
   -- and one that has passed them all
-  scanned_miss : w.size ≤ before x w → scanned x w place ≡ record { place = none; comparisons = w.size }
+  scanned_miss : w.size ≤ before x w → scanned x w place ≡ record { place = None; comparisons = w.size }
   unfolding scanned
   scanned_miss h = rw (le-ltb (before x w) w.size h)
 
@@ -39,18 +39,18 @@ module _ (x : ℕ) (w : Word) (place : ℕ → ℕ) where
   scan_few = go (ltb (before x w) w.size) refl
     where
       go : (b : Bool) → ltb (before x w) w.size ≡ b
-          → (cond {A = ScanTold} b (record { place = some (place (before x w)); comparisons = before x w + 1 }) (record { place = none; comparisons = w.size })).comparisons ≤ w.size
+          → (cond {A = ScanTold} b (record { place = Some (place (before x w)); comparisons = before x w + 1 }) (record { place = None; comparisons = w.size })).comparisons ≤ w.size
       go true e = let h = ltb-true (before x w) w.size e in omega arith
       go false e = omega arith
 
   -- what the rule's answer means, for any reading M of a place: a hit and a miss have to be shown
-  means : (M : Option ℕ → Type 0) → ((k : ℕ) → k < w.size → w.letter k ≡ x → Missed x w k → M (some (place k))) → (Missed x w w.size → M none)
+  means : (M : Option ℕ → Type 0) → ((k : ℕ) → k < w.size → w.letter k ≡ x → Missed x w k → M (Some (place k))) → (Missed x w w.size → M None)
       → M (scanned x w place).place
   unfolding scanned
   means M hit miss = go (ltb (before x w) w.size) refl
     where
       go : (b : Bool) → ltb (before x w) w.size ≡ b
-          → M (cond {A = ScanTold} b (record { place = some (place (before x w)); comparisons = before x w + 1 }) (record { place = none; comparisons = w.size })).place
+          → M (cond {A = ScanTold} b (record { place = Some (place (before x w)); comparisons = before x w + 1 }) (record { place = None; comparisons = w.size })).place
       go true e =
           let h = ltb-true (before x w) w.size e in
           hit (before x w) h (eqb-true _ _ ((first x w).found (omega arith))) (record { inside = omega arith; other = λ j hj. eqb-false _ _ ((first x w).missed j (omega arith) hj) })
@@ -98,17 +98,17 @@ module _ (x : ℕ) (text : List ℕ) where
 
   -- What each return of a scan has to show, behind k letters passed: the rule's answer, and what it means.
   pub front_hit : {k : ℕ} → k ≤ before x (front text) → before x (front text) < k + 1 → k < length text
-      → (record { place = some k; comparisons = k + 1 } ≡ from_front x text) × Least Stands k
+      → (record { place = Some k; comparisons = k + 1 } ≡ from_front x text) × Least Stands k
   front_hit low high h = settled (FindsLeast Stands) front_means (scanned_hit x (front text) (λ k. k) low high h)
 
-  pub front_miss : length text ≤ before x (front text) → (record { place = none; comparisons = length text } ≡ from_front x text) × None Stands
+  pub front_miss : length text ≤ before x (front text) → (record { place = None; comparisons = length text } ≡ from_front x text) × Nowhere Stands
   front_miss h = settled (FindsLeast Stands) front_means (scanned_miss x (front text) (λ k. k) h)
 
   pub back_hit : {k : ℕ} → k ≤ before x (back text) → before x (back text) < k + 1 → k < length text
-      → (record { place = some (length text - (1 + k)); comparisons = k + 1 } ≡ from_back x text) × Greatest Stands (length text - (1 + k))
+      → (record { place = Some (length text - (1 + k)); comparisons = k + 1 } ≡ from_back x text) × Greatest Stands (length text - (1 + k))
   back_hit low high h = settled (FindsGreatest Stands) back_means (scanned_hit x (back text) (λ k. length text - (1 + k)) low high h)
 
-  pub back_miss : length text ≤ before x (back text) → (record { place = none; comparisons = length text } ≡ from_back x text) × None Stands
+  pub back_miss : length text ≤ before x (back text) → (record { place = None; comparisons = length text } ≡ from_back x text) × Nowhere Stands
   back_miss h = settled (FindsGreatest Stands) back_means (scanned_miss x (back text) (λ k. length text - (1 + k)) h)
 
 -- what a scan's answer says loses nothing
@@ -116,8 +116,8 @@ pub place_loses_nothing : (a b : Found) → place_of a ≡ place_of b → a ≡ 
 place_loses_nothing a b e = sym (again a) ∙ ap back_to e ∙ again b
   where
     back_to : Option ℕ → Found
-    back_to (some k) = At k
-    back_to none = Nothing
+    back_to (Some k) = At k
+    back_to None = Nothing
 
     again : (a : Found) → back_to (place_of a) ≡ a
     again (At k) = refl

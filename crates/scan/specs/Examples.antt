@@ -1,15 +1,15 @@
 -- Examples of the scans, computed from their definitions: one table under one claim.
 -- The letters are ASCII: "a" is 97, "c" 99. Assumes nothing.
 use Rattle.std.specs.Prelude.{ℕ, List, [], ◌∷◌, T}
-use Rattle.std.proofs.Math.Option.{Option, none, some}
+use Rattle.std.specs.Prelude.{Option, None, Some}
 use Rattle.words.specs.Choice.{first_from}
 use Rattle.words.specs.Examples.{Example, banana, same, all_as_stated}
 use Rattle.scan.specs.Scanned.{ScanTold, before, scanned, from_front, from_back}
 
 -- a place is written as the list of it alone, and none as the empty list
 abbrev pub written : Option ℕ → List ℕ
-written (some k) = k ∷ []
-written none = []
+written (Some k) = k ∷ []
+written None = []
 
 -- the comparisons of a scan, and its place
 abbrev pub numbers : ScanTold → List ℕ

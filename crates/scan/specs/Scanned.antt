@@ -1,7 +1,7 @@
 -- What a one-byte scan answers and counts: 01's "Whole searches and counts".
 -- Assumes nothing.
 use Rattle.std.specs.Prelude.{ℕ, ◌+◌, ◌-◌, cond, List, ltb, eqb, length}
-use Rattle.std.proofs.Math.Option.{Option, none, some}
+use Rattle.std.specs.Prelude.{Option, None, Some}
 use Rattle.words.specs.Word.{Word, front, back}
 use Rattle.words.specs.Choice.{least}
 use Rattle.scan.specs.declared.Found.{Found}
@@ -10,8 +10,8 @@ use Rattle.scan.specs.declared.Scan.{Scan}
 
 -- what an answer says: the position, or none
 abbrev pub place_of : Found → Option ℕ
-place_of (At k) = some k
-place_of Nothing = none
+place_of (At k) = Some k
+place_of Nothing = None
 
 -- that, and the comparisons
 pub record ScanTold : Type 0 where
@@ -30,8 +30,8 @@ before x w = least w.size (λ i. eqb (w.letter i) x)
 unfoldable pub scanned : ℕ → Word → (ℕ → ℕ) → ScanTold
 scanned x w place =
     cond (ltb (before x w) w.size)
-    (record { place = some (place (before x w)); comparisons = before x w + 1 })
-    (record { place = none; comparisons = w.size })
+    (record { place = Some (place (before x w)); comparisons = before x w + 1 })
+    (record { place = None; comparisons = w.size })
 
 abbrev pub from_front : ℕ → List ℕ → ScanTold
 from_front x text = scanned x (front text) (λ k. k)

@@ -4,7 +4,7 @@ use Prim.Native.Nat.{ℕ}
 use mathlib.Core.Path.{◌≡◌, refl, ap}
 use mathlib.Core.Bool.{true, false}
 use mathlib.Core.List.{List}
-use mathlib.Core.Option.{Option, none, some}
+use Rattle.std.specs.Prelude.{Option, None, Some}
 use Rattle.limits.specs.Refusals.{number_of}
 use Rattle.limits.specs.Said.{Said, refused, given, LosesNothing}
 use Rattle.limits.specs.declared.Refusal.{Refusal}
@@ -39,7 +39,7 @@ module _ {ending : Ending} where
   pub match_refused : {why : Refusal} → ending ≡ Ending.Refused why → refused (number_of why) ≡ match_answer ending
   match_refused e = rw e
 
-  pub match_match : {a b : ℕ} → ending ≡ Ending.Match a b → given (some (a, b)) ≡ match_answer ending
+  pub match_match : {a b : ℕ} → ending ≡ Ending.Match a b → given (Some (a, b)) ≡ match_answer ending
   match_match e = rw e
 
 -- ---- preparing and the four calls
@@ -93,8 +93,8 @@ pub match_loses_nothing : LosesNothing match_said
 match_loses_nothing = by_way_back match_said back_to again
   where
     back_to : Said (Option (ℕ × ℕ)) → NextMatch
-    back_to (given (some ends)) = NextMatch.Match ends.0 ends.1
-    back_to (given none) = NextMatch.Nothing
+    back_to (given (Some ends)) = NextMatch.Match ends.0 ends.1
+    back_to (given None) = NextMatch.Nothing
     back_to (refused number) = NextMatch.Refused (refusal_of number)
 
     again : (a : NextMatch) → back_to (match_said a) ≡ a

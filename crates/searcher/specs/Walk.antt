@@ -1,7 +1,7 @@
 -- Preparing and the four calls of a walk, in 01's terms: what each answers, the next state, and the counts.
 -- Assumes nothing.
 use Rattle.std.specs.Prelude.{ℕ, true, false, List}
-use Rattle.std.proofs.Math.Option.{Option, none, some}
+use Rattle.std.specs.Prelude.{Option, None, Some}
 use Rattle.limits.specs.Refusals.{number_of}
 use Rattle.limits.specs.Said.{Said, refused, given}
 use Rattle.prepare.specs.Prepare.{preparation_said, PartsTold, prepare_rule, NoState}
@@ -35,8 +35,8 @@ step_said (Step.Refused why) = refused (number_of why)
 
 -- and a next match's: both ends of the match, or none
 abbrev pub match_said : NextMatch → Said (Option (ℕ × ℕ))
-match_said (NextMatch.Match a b) = given (some (a, b))
-match_said NextMatch.Nothing = given none
+match_said (NextMatch.Match a b) = given (Some (a, b))
+match_said NextMatch.Nothing = given None
 match_said (NextMatch.Refused why) = refused (number_of why)
 
 -- what a call tells: its answer, the next state, and the counts
@@ -78,10 +78,10 @@ step_answer Ending.Out low high = given (reject low high)
 -- and to a next match: "without Done and without the middle Reject, answering none instead of the last Reject"
 abbrev pub match_answer : Ending → Said (Option (ℕ × ℕ))
 match_answer (Ending.Refused why) = refused (number_of why)
-match_answer Ending.Done = given none
-match_answer (Ending.Match a b) = given (some (a, b))
-match_answer Ending.Passed = given none
-match_answer Ending.Out = given none
+match_answer Ending.Done = given None
+match_answer (Ending.Match a b) = given (Some (a, b))
+match_answer Ending.Passed = given None
+match_answer Ending.Out = given None
 
 -- either as it is handed back, with what preparing fixed
 abbrev pub step_of : Fixed → Walked → ℕ → ℕ → CallTold StepTerm

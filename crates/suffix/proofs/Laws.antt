@@ -4,7 +4,7 @@ use Prim.Native.Nat.{ℕ, ◌*◌, ◌<◌, ◌≤◌}
 use mathlib.Core.Path.{◌≡◌, refl, sym, ◌∙◌, ap, subst}
 use mathlib.Core.Bool.{Bool, true, false}
 use mathlib.Core.List.{List}
-use mathlib.Core.Option.{none, some}
+use Rattle.std.specs.Prelude.{None, Some}
 use lib.Dec.{ltb}
 use lib.ListN.{length}
 use borrow.Author.Tests.{ltb-true, ltb-false}
@@ -33,7 +33,7 @@ module _ (g : Bool) (w : List ℕ) {t : Bool} where
   unfolding maximal_rule
   maximal_refused q e = (rw (sym e ∙ q), (ltb-true _ _ (sym e ∙ q), refl))
 
-  pub maximal_returns : {r : Suffix} → t ≡ false → t ≡ ltb needle_bound (length w) → rounds g (front w) none ≡ r
+  pub maximal_returns : {r : Suffix} → t ≡ false → t ≡ ltb needle_bound (length w) → rounds g (front w) None ≡ r
       → (given r ≡ maximal_rule g w) × MaximalMeaning g w (given r)
   unfolding maximal_rule
   maximal_returns q e made = (rw (sym e ∙ q, made), (ltb-false _ _ (sym e ∙ q), subst (IsFound g (front w)) made (plain_found g (front w))))
@@ -44,7 +44,7 @@ module _ (g : Bool) (w : List ℕ) {t : Bool} where
     unfolding reverse_rule
     reverse_refused q e = (rw (sym e ∙ q), (ltb-true _ _ (sym e ∙ q), refl))
 
-    pub reverse_returns : {r : Suffix} → t ≡ false → t ≡ ltb needle_bound (length w) → rounds g (back w) (some known) ≡ r
+    pub reverse_returns : {r : Suffix} → t ≡ false → t ≡ ltb needle_bound (length w) → rounds g (back w) (Some known) ≡ r
         → (given (record { start = r.start; rounds = r.rounds }) ≡ reverse_rule g known w)
         × ReverseMeaning g known w (given (record { start = r.start; rounds = r.rounds }))
     unfolding reverse_rule
@@ -52,7 +52,7 @@ module _ (g : Bool) (w : List ℕ) {t : Bool} where
       rw (sym e ∙ q, made),
       (
         ltb-false _ _ (sym e ∙ q),
-        subst (λ (r : Suffix). r.rounds ≤ 2 * length w) made (few_rounds g (back w) (some known)),
+        subst (λ (r : Suffix). r.rounds ≤ 2 * length w) made (few_rounds g (back w) (Some known)),
         λ P. subst (λ (r : Suffix). MaximalSuffix g (back w) r.start) made (known_found g (back w) known (period_mirror (front w) known P)).maximal,
       ),
     )

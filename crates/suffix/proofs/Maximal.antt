@@ -3,7 +3,7 @@
 use Prim.Native.Nat.{ℕ, zero, suc, ◌+◌, ◌-◌, ◌*◌, ◌<◌, ◌≤◌}
 use mathlib.Core.Path.{◌≡◌, refl, sym, subst}
 use mathlib.Core.Bool.{Bool, true, false, cond, false≢true}
-use mathlib.Core.Option.{Option, none, some}
+use Rattle.std.specs.Prelude.{Option, None, Some}
 use native.Mathlib.Omega.{arith}
 use native.Mathlib.Decide.{dec_lt}
 use lib.Dec.{ltb, eqb}
@@ -113,8 +113,8 @@ module _ (g : Bool) (x : Word) where
         | no h ↦ rw (rounds_empty known (omega arith)) (empty_found (omega arith))
       ]
 
-  pub plain_found : IsFound g x (rounds g x none)
-  plain_found = rounds_found none (λ p e. absurd (false≢true e))
+  pub plain_found : IsFound g x (rounds g x None)
+  plain_found = rounds_found None (λ p e. absurd (false≢true e))
 
-  pub known_found : (c : ℕ) → Period x c → IsFound g x (rounds g x (some c))
-  known_found c P = rounds_found (some c) (λ p e. subst (Period x) (sym (eqb-true p c e)) P)
+  pub known_found : (c : ℕ) → Period x c → IsFound g x (rounds g x (Some c))
+  known_found c P = rounds_found (Some c) (λ p e. subst (Period x) (sym (eqb-true p c e)) P)

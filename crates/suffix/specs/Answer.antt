@@ -1,7 +1,7 @@
 -- What the two maximal suffix calls answer: the rule, which settles the answer for every word, and what the answer means.
 -- Assumes nothing.
 use Rattle.std.specs.Prelude.{ℕ, ◌+◌, ◌*◌, ◌<◌, ◌≤◌, ◌≡◌, Bool, cond, List, ltb, length}
-use Rattle.std.proofs.Math.Option.{none, some}
+use Rattle.std.specs.Prelude.{None, Some}
 use Rattle.words.specs.Word.{Word, front, back, suffix}
 use Rattle.words.specs.Period.{Period, SmallestPeriod}
 use Rattle.words.specs.Order.{MaximalSuffix}
@@ -32,12 +32,12 @@ reverse_said (ReverseAnswer.Refused why) = refused (number_of why)
 
 -- "The two maximal suffix calls make only check 2, on their word"; else the rounds of the source decide
 unfoldable pub maximal_rule : Bool → List ℕ → Said Suffix
-maximal_rule g w = cond (ltb needle_bound (length w)) (refused 2) (given (rounds g (front w) none))
+maximal_rule g w = cond (ltb needle_bound (length w)) (refused 2) (given (rounds g (front w) None))
 
 -- "`reverse_maximal_suffix` does the same on the reversed word, gives the start only"
 unfoldable pub reverse_rule : Bool → ℕ → List ℕ → Said ReverseSuffix
 reverse_rule g known w =
-    let r = rounds g (back w) (some known) in
+    let r = rounds g (back w) (Some known) in
     cond (ltb needle_bound (length w)) (refused 2) (given (record { start = r.start; rounds = r.rounds }))
 
 -- "`maximal_suffix` gives its start and its smallest period; for an empty word 0 and 1", and the rounds are at most twice the word's length

@@ -1,7 +1,7 @@
 -- The rounds of the source's maximal suffix loop, over a word read in either direction. Executable.
 -- Assumes nothing.
 use Rattle.std.specs.Prelude.{ℕ, zero, suc, ◌+◌, ◌-◌, ◌*◌, Bool, false, cond, ltb, eqb}
-use Rattle.std.proofs.Math.Option.{Option, none, some}
+use Rattle.std.specs.Prelude.{Option, None, Some}
 use Rattle.words.specs.Word.{Word}
 use Rattle.words.specs.Order.{below}
 use Rattle.suffix.specs.declared.State.{State}
@@ -35,8 +35,8 @@ out s k = record { start = s.left; period = s.period; rounds = k }
 
 -- whether a round that leaves the period p is the last one: "stops after the first round in which its current period equals the known one"
 abbrev pub stops : Option ℕ → ℕ → Bool
-stops none p = false
-stops (some known) p = eqb p known
+stops None p = false
+stops (Some known) p = eqb p known
 
 -- the rounds, while the new letter is inside the word, counted from k on; at most as many as the first argument
 unfoldable pub run : ℕ → Bool → Word → Option ℕ → State → ℕ → Suffix

@@ -4,7 +4,7 @@ use Prim.Native.Nat.{ℕ, ◌-◌, ◌^◌}
 use mathlib.Core.Path.{◌≡◌, refl, ◌∙◌, ap}
 use mathlib.Core.Bool.{Bool}
 use mathlib.Core.List.{List}
-use mathlib.Core.Option.{Option, none, some}
+use Rattle.std.specs.Prelude.{Option, None, Some}
 use lib.ListN.{length, get_or}
 use borrow.Author.Tests.{eq-eqb, ne_eqb}
 use Rattle.limits.specs.Checks.{lengths}
@@ -23,14 +23,14 @@ use Rattle.twoway.specs.Find.{position_said, SearchTold, told, of_match, empty_p
 
 -- ---- answers in other words
 
-pub scan_at : {f : Found} {k : ℕ} → f ≡ Found.At k → given (some k) ≡ given (place_of f)
+pub scan_at : {f : Found} {k : ℕ} → f ≡ Found.At k → given (Some k) ≡ given (place_of f)
 scan_at e = rw e
 
-pub scan_nothing : {f : Found} → f ≡ Found.Nothing → given none ≡ given (place_of f)
+pub scan_nothing : {f : Found} → f ≡ Found.Nothing → given None ≡ given (place_of f)
 scan_nothing e = rw e
 
 module _ {a : NextMatch} where
-  pub match_at : {k e : ℕ} → a ≡ NextMatch.Match k e → given (some k) ≡ of_match (match_said a)
+  pub match_at : {k e : ℕ} → a ≡ NextMatch.Match k e → given (Some k) ≡ of_match (match_said a)
   match_at q = rw q
 
   pub match_refused : {why : Refusal} → a ≡ NextMatch.Refused why → refused (number_of why) ≡ of_match (match_said a)
@@ -50,7 +50,7 @@ module _ (backward : Bool) (text pattern : List ℕ) {c : Check} {r : SearchTold
   search_refused because q = q ∙ rw (← checked, because)
 
   module _ (pass : c ≡ Check.Pass) where
-    pub search_empty : {k : ℕ} → length pattern ≡ 0 → k ≡ empty_place backward (length text) → r ≡ told (given (some k)) 0 0 0 → r ≡ searched backward text pattern
+    pub search_empty : {k : ℕ} → length pattern ≡ 0 → k ≡ empty_place backward (length text) → r ≡ told (given (Some k)) 0 0 0 → r ≡ searched backward text pattern
     unfolding searched
     search_empty z e q = q ∙ rw (e, ← checked, pass, eq-eqb _ _ z)
 
@@ -79,8 +79,8 @@ pub position_loses_nothing : LosesNothing position_said
 position_loses_nothing = by_way_back position_said back_to again
   where
     back_to : Said (Option ℕ) → Position
-    back_to (given (some k)) = Position.At k
-    back_to (given none) = Position.Nothing
+    back_to (given (Some k)) = Position.At k
+    back_to (given None) = Position.Nothing
     back_to (refused number) = Position.Refused (refusal_of number)
 
     again : (a : Position) → back_to (position_said a) ≡ a

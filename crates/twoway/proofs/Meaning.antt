@@ -4,7 +4,7 @@ use Prim.Native.Nat.{ℕ}
 use mathlib.Core.Path.{◌≡◌, refl, sym, subst}
 use mathlib.Core.Bool.{Bool, true, false}
 use mathlib.Core.List.{List, [], ◌∷◌}
-use mathlib.Core.Option.{Option, none, some}
+use Rattle.std.specs.Prelude.{Option, None, Some}
 use native.Mathlib.Omega.{arith}
 use native.Mathlib.Decide.{ℕ_discrete}
 use lib.ListN.{length, get_or}
@@ -29,17 +29,17 @@ use Rattle.twoway.proofs.Bounds.{searched_bounded}
 
 -- Finds says what it is to be the right place, and Answers what it is to be the right next match; each of the three searches has to be shown right.
 module _ (backward : Bool) (text pattern : List ℕ) (Finds : Option ℕ → Type 0) (Answers : Said (Option (ℕ × ℕ)) → Type 0)
-    (matches : (k e : ℕ) → Answers (given (some (k, e))) → Finds (some k)) (misses : Answers (given none) → Finds none)
+    (matches : (k e : ℕ) → Answers (given (Some (k, e))) → Finds (Some k)) (misses : Answers (given None) → Finds None)
     (refuses : (number : ℕ) → Answers (refused number) → ⊥)
-    (at_empty : length pattern ≡ 0 → Finds (some (empty_place backward (length text))))
+    (at_empty : length pattern ≡ 0 → Finds (Some (empty_place backward (length text))))
     (by_scan : length pattern ≡ 1 → Finds (scan_of backward (get_or pattern 0 0) text).place)
     (by_walk : Within (length text) (length pattern) → Answers (match_of backward pattern text (new_rule pattern (length text) NonOverlapping).walk).answer) where
   meant : {r : SearchTold} → r ≡ searched backward text pattern → Meant Finds text pattern r.position → Meant Finds text pattern (searched backward text pattern).position
   meant e m = subst (λ (r : SearchTold). Meant Finds text pattern r.position) e m
 
   of_match_meant : Within (length text) (length pattern) → (a : Said (Option (ℕ × ℕ))) → Answers a → Meant Finds text pattern (of_match a)
-  of_match_meant w (given (some (k, e))) m = (w, matches k e m)
-  of_match_meant w (given none) m = (w, misses m)
+  of_match_meant w (given (Some (k, e))) m = (w, matches k e m)
+  of_match_meant w (given None) m = (w, misses m)
   of_match_meant w (refused number) m = absurd (refuses number m)
 
   searched_means : Meant Finds text pattern (searched backward text pattern).position

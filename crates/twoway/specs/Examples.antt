@@ -1,7 +1,7 @@
 -- 01's checked examples P1 to P12, the walks of an empty needle, and those whose matches may overlap, from the rules: one table under one claim.
 -- The letters are ASCII: "a" is 97. Assumes nothing.
 use Rattle.std.specs.Prelude.{ℕ, zero, suc, ◌+◌, Bool, true, false, List, [], ◌∷◌, ◌++◌, T, length}
-use Rattle.std.proofs.Math.Option.{Option, none, some}
+use Rattle.std.specs.Prelude.{Option, None, Some}
 use Rattle.words.specs.Choice.{first_from}
 use Rattle.words.specs.Examples.{Example, same, all_as_stated, aab, gcagagag, banana, nana, acba, xacbaacbxxcba, aa, aaa}
 use Rattle.limits.specs.Bounds.{haystack_bound, needle_bound}
@@ -54,8 +54,8 @@ step (refused number) = 4 ∷ number ∷ []
 
 -- a next match in the same way, and none 3
 abbrev pub found : Said (Option (ℕ × ℕ)) → List ℕ
-found (given (some (a, b))) = 1 ∷ a ∷ b ∷ []
-found (given none) = 3 ∷ []
+found (given (Some (a, b))) = 1 ∷ a ∷ b ∷ []
+found (given None) = 3 ∷ []
 found (refused number) = 4 ∷ number ∷ []
 
 -- so many calls in a row

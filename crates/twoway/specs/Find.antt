@@ -1,7 +1,7 @@
 -- Whole searches: 01's "Whole searches and counts", and the codes of the C functions.
 -- `backward` says which of the two directions a search has. Assumes nothing.
 use Rattle.std.specs.Prelude.{ℕ, ◌-◌, ◌^◌, Bool, true, false, cond, List, eqb, length, get_or}
-use Rattle.std.proofs.Math.Option.{Option, none, some}
+use Rattle.std.specs.Prelude.{Option, None, Some}
 use Rattle.limits.specs.Checks.{lengths}
 use Rattle.limits.specs.Refusals.{number_of}
 use Rattle.limits.specs.Said.{Said, refused, given}
@@ -16,8 +16,8 @@ use Rattle.twoway.specs.declared.Answer.{Answer}
 
 -- what an answer says: its refusal's number, or the position or none
 abbrev pub position_said : Position → Said (Option ℕ)
-position_said (Position.At k) = given (some k)
-position_said Position.Nothing = given none
+position_said (Position.At k) = given (Some k)
+position_said Position.Nothing = given None
 position_said (Position.Refused why) = refused (number_of why)
 
 -- that, and the counts
@@ -33,8 +33,8 @@ told position preparing comparisons tests = record { position = position; counts
 
 -- a match as a position: its start
 abbrev pub of_match : Said (Option (ℕ × ℕ)) → Said (Option ℕ)
-of_match (given (some (a, b))) = given (some a)
-of_match (given none) = given none
+of_match (given (Some (a, b))) = given (Some a)
+of_match (given None) = given None
 of_match (refused number) = refused number
 
 -- "Empty needle: find 0, rfind n."
@@ -68,7 +68,7 @@ searched backward text pattern =
     let longer = by_walk p.counts.preparing (match_of backward pattern text p.walk) in
     or_told (lengths (length text) (length pattern))
     (cond (eqb (length pattern) 0)
-    (told (given (some (empty_place backward (length text)))) 0 0 0)
+    (told (given (Some (empty_place backward (length text)))) 0 0 0)
     (cond (eqb (length pattern) 1) (by_scan (scan_of backward (get_or pattern 0 0) text)) longer))
 
 abbrev pub find_rule : List ℕ → List ℕ → SearchTold
@@ -79,6 +79,6 @@ rfind_rule text pattern = searched true text pattern
 
 -- "the position, or 2^64-1 for none, 2^64-2 for refusal 1, 2^64-3 for refusal 2"
 abbrev pub code_of : Said (Option ℕ) → ℕ
-code_of (given (some k)) = k
-code_of (given none) = 2 ^ 64 - 1
+code_of (given (Some k)) = k
+code_of (given None) = 2 ^ 64 - 1
 code_of (refused number) = 2 ^ 64 - 1 - number

@@ -2,7 +2,7 @@
 -- and what they may cost.
 -- Assumes nothing.
 use Rattle.std.specs.Prelude.{ℕ, ◌*◌, ◌≤◌, List, length}
-use Rattle.std.proofs.Math.Option.{Option}
+use Rattle.std.specs.Prelude.{Option}
 use Rattle.words.specs.Word.{front}
 use Rattle.words.specs.Choice.{FindsLeast, FindsGreatest}
 use Rattle.words.specs.Occurs.{Occurs}

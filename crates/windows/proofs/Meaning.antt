@@ -9,7 +9,7 @@ use native.Mathlib.Decide.{dec_lt}
 use lib.Dec.{ltb, eqb}
 use borrow.Author.Tests.{ltb-true, ltb-false, eqb-true, eqb-false}
 use Rattle.words.specs.Word.{Word}
-use Rattle.words.specs.Choice.{Least, None, FindsLeast}
+use Rattle.words.specs.Choice.{Least, Nowhere, FindsLeast}
 use Rattle.words.specs.Occurs.{OccursFrom, Leftmost}
 use Rattle.words.proofs.Tests.{least_same}
 use Rattle.windows.specs.declared.Plan.{Plan}
@@ -27,7 +27,7 @@ use Rattle.windows.proofs.Windows.{Sound, Skips, WindowMeans, window_means}
 abbrev pub Meant : Plan → Word → Word → Bool → ℕ → ℕ → ℕ → Stop → Type 0
 Meant v x h stepping old a b (Stop.Hit k) = Least (OccursFrom x h a) k × (b ≡ k + v.shift) × (stepping ≡ true → k ≡ old)
 Meant v x h stepping old a b Stop.Passed = Skips x h a b × (stepping ≡ true) × (b ≡ old → ⊥)
-Meant v x h stepping old a b Stop.Out = None (OccursFrom x h a) × (b ≡ h.size)
+Meant v x h stepping old a b Stop.Out = Nowhere (OccursFrom x h a) × (b ≡ h.size)
 
 -- what the result r of a search from a means
 pub record SearchMeans (v : Plan) (x h : Word) (stepping : Bool) (old a : ℕ) (r : Searched) : Type 0 where

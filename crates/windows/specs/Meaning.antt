@@ -1,7 +1,7 @@
 -- What a plan must satisfy for the walks that go by it to mean what they should, and what a search answers as a position.
 -- Assumes nothing.
 use Rattle.std.specs.Prelude.{ℕ, ◌+◌, ◌<◌, ◌≤◌, ◌≡◌, Bool, true}
-use Rattle.std.proofs.Math.Option.{Option, none, some}
+use Rattle.std.specs.Prelude.{Option, None, Some}
 use Rattle.words.specs.Word.{Word}
 use Rattle.words.specs.Occurs.{Occurs}
 use Rattle.words.specs.Period.{SmallestPeriod}
@@ -38,6 +38,6 @@ pub record Gap (v : Plan) (x : Word) (gap : ℕ) : Type 0 where
 
 -- the position that a next match answers, or nothing
 abbrev pub place : Stop → Option ℕ
-place (Stop.Hit k) = some k
-place Stop.Passed = none
-place Stop.Out = none
+place (Stop.Hit k) = Some k
+place Stop.Passed = None
+place Stop.Out = None

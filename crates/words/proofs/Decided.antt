@@ -10,7 +10,7 @@ use native.Mathlib.Decide.{dec_lt, dec_le, ℕ_discrete}
 use lib.Dec.{ltb, leb, eqb}
 use borrow.Author.Tests.{ltb-true, ltb-false, leb-true, leb-false, eqb-true, lt-ltb, le-ltb, eq-eqb, ne_eqb, not-false}
 use Rattle.words.specs.Word.{Word, mirror, suffix}
-use Rattle.words.specs.Choice.{Least, None, every, least}
+use Rattle.words.specs.Choice.{Least, Nowhere, every, least}
 use Rattle.words.specs.Occurs.{Occurs, occursb, OccursFrom, OccursBelow, Leftmost, Rightmost, next_from, leftmost, rightmost}
 use Rattle.words.specs.Period.{Period, SmallestPeriod, periodb, smallest_period, LocalRepeat, LocalPeriod, local_repeatb, local_period}
 use Rattle.words.specs.Order.{Below, below, Less, lessb, MaximalSuffix, maximalb}
@@ -42,7 +42,7 @@ module _ (x h : Word) where
         none_before = λ j hj o. refutes (occurs_decided j) (r.missed j o.0 hj) o.1;
       }
 
-  next_none : (a : ℕ) → h.size < next_from x h a → None (OccursFrom x h a)
+  next_none : (a : ℕ) → h.size < next_from x h a → Nowhere (OccursFrom x h a)
   unfolding next_from
   next_none a hk j o =
       let r = first_is (occursb x h) (h.size + 1 - a) a in
@@ -53,7 +53,7 @@ module _ (x h : Word) where
   pub leftmost_is : (most gap a : ℕ) → 0 < gap → h.size < most + a + x.size → Leftmost x h gap a (leftmost most x h gap a)
   unfolding leftmost
   leftmost_is zero gap a pg room =
-      let past : None (OccursFrom x h a) = λ j o. let f = o.1.fits in let s = o.0 in absurd (omega arith) in
+      let past : Nowhere (OccursFrom x h a) = λ j o. let f = o.1.fits in let s = o.0 in absurd (omega arith) in
       Leftmost.over past
   leftmost_is (suc most) gap a pg room = go (leb k h.size) refl (λ low. leftmost_is most gap (k + gap) pg (omega arith))
     where

@@ -9,7 +9,7 @@ use mathlib.Core.List.{List, [], ◌∷◌, ◌++◌}
 use native.Mathlib.Omega.{arith}
 use native.Mathlib.Decide.{ℕ_discrete, dec_lt}
 use Rattle.words.specs.Word.{Word}
-use Rattle.words.specs.Choice.{None}
+use Rattle.words.specs.Choice.{Nowhere}
 use Rattle.words.specs.Occurs.{Occurs, occursb, OccursFrom, OccursBelow, Leftmost, Rightmost}
 use Rattle.words.specs.Listed.{In, Ordered, Lists, Rising, Falling, passing, occurrences}
 use Rattle.words.proofs.Tests.{Decides, refutes}
@@ -21,7 +21,7 @@ nowhere = elim [ ]
 -- ---- a list, made from its end
 
 module _ {before : ℕ → ℕ → Type 0} {P : ℕ → Type 0} where
-  lists_none : None P → Lists before P []
+  lists_none : Nowhere P → Lists before P []
   lists_none none = record { every = λ k p. absurd (none k p); only = λ k i. absurd (nowhere i); ordered = Ordered.over }
 
   -- k, and behind it those that have Q: all others that have P, and k comes before them

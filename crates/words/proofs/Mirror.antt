@@ -5,7 +5,7 @@ use mathlib.Core.Path.{◌≡◌, refl, sym, ◌∙◌, ap}
 use mathlib.Core.List.{List, [], ◌∷◌, map}
 use native.Mathlib.Omega.{arith}
 use Rattle.words.specs.Word.{Word, mirror}
-use Rattle.words.specs.Choice.{Least, Greatest, None}
+use Rattle.words.specs.Choice.{Least, Greatest, Nowhere}
 use Rattle.words.specs.Occurs.{Occurs, OccursFrom, OccursBelow, Leftmost, Rightmost, mirrored}
 use Rattle.words.specs.Period.{Period}
 
@@ -58,7 +58,7 @@ module _ (x h : Word) where
           none_after = λ j hj o. let fj = o.1.fits in l.none_before (mirrored x h j) (omega arith) (to_from j o);
         }
 
-    pub none_none : None (OccursFrom (mirror x) (mirror h) a) → None (OccursBelow x h b)
+    pub none_none : Nowhere (OccursFrom (mirror x) (mirror h) a) → Nowhere (OccursBelow x h b)
     none_none m k o = m (mirrored x h k) (to_from k o)
 
     -- and the other way round
@@ -70,7 +70,7 @@ module _ (x h : Word) where
           none_before = λ j hj o. let fj = o.1.fits in g.none_after (mirrored x h j) (omega arith) (to_below j o);
         }
 
-    none_from : None (OccursBelow x h b) → None (OccursFrom (mirror x) (mirror h) a)
+    none_from : Nowhere (OccursBelow x h b) → Nowhere (OccursFrom (mirror x) (mirror h) a)
     none_from m k o = m (mirrored x h k) (to_below k o)
 
   -- the rightmost list is the leftmost one of the mirrored words, each place counted from the other end

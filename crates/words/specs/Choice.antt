@@ -2,7 +2,7 @@
 -- Beside them the executable forms, in which a test stands for the property; proofs/Decided.antt shows that they agree.
 -- Assumes nothing.
 use Rattle.std.specs.Prelude.{ℕ, zero, suc, ◌+◌, ◌<◌, Bool, true, cond, ◌&&◌}
-use Rattle.std.proofs.Math.Option.{Option, none, some}
+use Rattle.std.specs.Prelude.{Option, None, Some}
 
 -- P holds of k, and of no number before it
 pub record Least (P : ℕ → Type 0) (k : ℕ) : Type 0 where
@@ -15,18 +15,18 @@ pub record Greatest (P : ℕ → Type 0) (k : ℕ) : Type 0 where
   pub none_after : (j : ℕ) → k < j → P j → ⊥
 
 -- P holds of no number
-abbrev pub None : (ℕ → Type 0) → Type 0
-None P = (j : ℕ) → P j → ⊥
+abbrev pub Nowhere : (ℕ → Type 0) → Type 0
+Nowhere P = (j : ℕ) → P j → ⊥
 
 -- what an answer says that is a position or nothing: the least one, and nothing exactly if there is none
 abbrev pub FindsLeast : (ℕ → Type 0) → Option ℕ → Type 0
-FindsLeast P (some k) = Least P k
-FindsLeast P none = None P
+FindsLeast P (Some k) = Least P k
+FindsLeast P None = Nowhere P
 
 -- the same of the greatest
 abbrev pub FindsGreatest : (ℕ → Type 0) → Option ℕ → Type 0
-FindsGreatest P (some k) = Greatest P k
-FindsGreatest P none = None P
+FindsGreatest P (Some k) = Greatest P k
+FindsGreatest P None = Nowhere P
 
 -- whether the test f holds of every number below n
 unfoldable pub every : ℕ → (ℕ → Bool) → Bool

@@ -2,7 +2,7 @@
 -- Assumes nothing.
 use Rattle.std.specs.Prelude.{ℕ, zero, suc, ◌+◌, ◌-◌, ◌<◌, ◌≤◌, ◌≡◌, Bool, cond, ◌&&◌, List, [], ◌∷◌, map, leb, eqb}
 use Rattle.words.specs.Word.{Word, mirror}
-use Rattle.words.specs.Choice.{Least, Greatest, None, every, first_from}
+use Rattle.words.specs.Choice.{Least, Greatest, Nowhere, every, first_from}
 
 -- x occurs in h at k: it fits there, and each of its letters is the one of h that it stands at
 pub record Occurs (x h : Word) (k : ℕ) : Type 0 where
@@ -24,13 +24,13 @@ OccursBelow x h b k = (k < b) × Occurs x h k
 -- The greedy leftmost list from a on: the least occurrence from a on, and then the list from `gap` past its start on.
 -- The occurrences that do not overlap are those at a gap of x's size; at a gap of 1 the list has every occurrence. A whole list starts at 0.
 pub data Leftmost (x h : Word) (gap : ℕ) : ℕ → List ℕ → Type 0 where
-  over : {a : ℕ} → None (OccursFrom x h a) → Leftmost x h gap a []
+  over : {a : ℕ} → Nowhere (OccursFrom x h a) → Leftmost x h gap a []
   hit : {a k : ℕ} {ks : List ℕ} → Least (OccursFrom x h a) k → Leftmost x h gap (k + gap) ks → Leftmost x h gap a (k ∷ ks)
 
 -- The greedy rightmost list below b: the greatest occurrence that starts below b, and then the list of those that start `gap` or more before it.
 -- A whole list starts at b = n + 1, which is above every start: an empty word occurs at n too.
 pub data Rightmost (x h : Word) (gap : ℕ) : ℕ → List ℕ → Type 0 where
-  over : {b : ℕ} → None (OccursBelow x h b) → Rightmost x h gap b []
+  over : {b : ℕ} → Nowhere (OccursBelow x h b) → Rightmost x h gap b []
   hit : {b k : ℕ} {ks : List ℕ} → Greatest (OccursBelow x h b) k → Rightmost x h gap (k + 1 - gap) ks → Rightmost x h gap b (k ∷ ks)
 
 -- the least occurrence from a on, or a number that is above h's size

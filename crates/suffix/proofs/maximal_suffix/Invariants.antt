@@ -1,7 +1,7 @@
 -- `suffix::maximal_suffix` meets its contract. The loop keeps what Loop.antt says of the word read from the front.
 -- Assumes nothing.
 use Prim.Native.Nat.{◌*◌, ◌-◌}
-use mathlib.Core.Option.{none}
+use Rattle.std.specs.Prelude.{None}
 use lib.ListN.{length}
 use Rattle.words.specs.Word.{front}
 use Rattle.suffix.proofs.Steps.{potential}
@@ -9,7 +9,7 @@ use Rattle.suffix.proofs.Loop.{Looping}
 use Rattle.suffix.proofs.maximal_suffix.Given as goal
 
 abbrev pub invariant-loop-s : goal.invariant-loop-s
-invariant-loop-s l = Looping l.order_greater (front l.arr) none l.s l.rounds
+invariant-loop-s l = Looping l.order_greater (front l.arr) None l.s l.rounds
 
 abbrev pub decreases-loop-s : goal.decreases-loop-s
 decreases-loop-s l = 2 * length l.arr - potential l.s
