@@ -29,7 +29,7 @@ use Rattle.record.specs.declared.Moving.{Moving}
 use Rattle.record.specs.Fits.{fits, fitting}
 use Rattle.record.specs.Kinds.{flags_of, overlaps, forward_plan, backward_plan, forward_cursor, backward_cursor, moved_forward, moved_backward, backward_period_memory}
 use Rattle.record.proofs.Fitting.{forward_follows, backward_follows, two_way_some, fits_forward, fits_backward}
-use Rattle.record.proofs.Moved.{Goes, known_now, known_back_now, moved_forward_lem, moved_backward_lem}
+use Rattle.record.proofs.Moves.{Goes, known_now, known_back_now, moved_forward_lem, moved_backward_lem}
 use Rattle.search.specs.declared.Ending.{Ending}
 use Rattle.search.specs.declared.Walked.{Walked}
 use Rattle.search.specs.Calls.{step_check, refusal, free, ending_of, or_walked, forward, backward, walked_forward, walked_backward, forward_by, backward_by, forward_call, backward_call}

@@ -1,3 +1,3 @@
 pub mod Ways
 pub mod Fitting
-pub mod Moved
+pub mod Moves

@@ -1,8 +1,7 @@
 -- When a state fits: 01's "The record of a walk".
 -- Assumes nothing.
-use Rattle.std.specs.Prelude.{ℕ, ◌+◌, ◌-◌, max, Bool, cond, ◌&&◌, ◌||◌, List, leb, ltb, eqb, length}
-use Rattle.limits.specs.declared.Check.{Check}
-use Rattle.limits.specs.declared.Check.TheVariants.{Pass, Refuse}
+use Rattle.std.specs.Prelude.{ℕ, ◌+◌, ◌-◌, max, Bool, cond, ◌&&◌, ◌||◌, List, leb, ltb, eqb, length, Ok, Err}
+use Rattle.limits.specs.Checks.{Check}
 use Rattle.limits.specs.declared.Refusal.TheVariants.{StateDoesNotFit}
 use Rattle.record.specs.declared.Memory.{Memory}
 use Rattle.record.specs.declared.Memory.TheVariants.{Long, Short}
@@ -35,4 +34,4 @@ fits needle haystack f s =
 
 -- check 4: "a handed-in state doesn't fit"
 unfoldable pub fitting : List ℕ → List ℕ → Fixed → Moving → Check
-fitting needle haystack f s = cond (fits needle haystack f s) Pass (Refuse StateDoesNotFit)
+fitting needle haystack f s = cond (fits needle haystack f s) (Ok tt) (Err StateDoesNotFit)

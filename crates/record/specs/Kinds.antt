@@ -46,6 +46,10 @@ abbrev pub backward_memory : ℕ → Memory → ℕ
 backward_memory m Long = m
 backward_memory m (Short forward backward) = backward
 
+-- both, by whether the direction is the backward one, as in each `.. : Bool → ..` below
+abbrev pub memory_of : Bool → ℕ → Memory → ℕ
+memory_of backward m memory = cond backward (backward_memory m memory) (forward_memory memory)
+
 -- "In either direction only Short sets memory"; "Neither direction changes the other's cursor or memory."
 abbrev pub set_forward : ℕ → Memory → Memory
 set_forward k Long = Long
@@ -55,6 +59,9 @@ abbrev pub set_backward : ℕ → Memory → Memory
 set_backward k Long = Long
 set_backward k (Short forward backward) = Short forward k
 
+abbrev pub set_memory : Bool → ℕ → Memory → Memory
+set_memory backward k memory = cond backward (set_backward k memory) (set_forward k memory)
+
 -- the memory that a difference in the second part sets: "sets memory m-p", backward "memory p"
 abbrev pub forward_period_memory : ℕ → ℕ → Memory → ℕ
 forward_period_memory m p Long = 0
@@ -63,6 +70,9 @@ forward_period_memory m p (Short forward backward) = m - p
 abbrev pub backward_period_memory : ℕ → ℕ → Memory → ℕ
 backward_period_memory m p Long = m
 backward_period_memory m p (Short forward backward) = p
+
+abbrev pub period_memory_of : Bool → ℕ → ℕ → Memory → ℕ
+period_memory_of backward m p memory = cond backward (backward_period_memory m p memory) (forward_period_memory m p memory)
 
 -- What a walk goes by in each direction. A match: "memory 0", backward "memory m"; overlapping: "keep memory m-p (backward p)" (02 [3]).
 abbrev pub forward_plan : ℕ → Fixed → Memory → Plan
@@ -85,6 +95,9 @@ backward_plan m f memory =
       shift_memory = after_match f.mode m (backward_period_memory m f.period memory);
     }
 
+abbrev pub plan_of : Bool → ℕ → Fixed → Memory → Plan
+plan_of backward m f memory = cond backward (backward_plan m f memory) (forward_plan m f memory)
+
 -- where it stands
 abbrev pub forward_cursor : Moving → Cursor
 forward_cursor s = record { at = s.position; memory = forward_memory s.memory }
@@ -92,9 +105,15 @@ forward_cursor s = record { at = s.position; memory = forward_memory s.memory }
 abbrev pub backward_cursor : ℕ → Moving → Cursor
 backward_cursor m s = record { at = s.end; memory = backward_memory m s.memory }
 
+abbrev pub cursor_of : Bool → ℕ → Moving → Cursor
+cursor_of backward m s = cond backward (backward_cursor m s) (forward_cursor s)
+
 -- the record with one direction moved to a cursor
 abbrev pub moved_forward : Moving → Cursor → Moving
 moved_forward s k = record { position = k.at; end = s.end; memory = set_forward k.memory s.memory; kind = s.kind }
 
 abbrev pub moved_backward : Moving → Cursor → Moving
 moved_backward s k = record { position = s.position; end = k.at; memory = set_backward k.memory s.memory; kind = s.kind }
+
+abbrev pub moved_to : Bool → Moving → Cursor → Moving
+moved_to backward s k = cond backward (moved_backward s k) (moved_forward s k)

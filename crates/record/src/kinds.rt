@@ -1,7 +1,7 @@
 // What the kind of a walk, its mode and the kind of its memory are to its two directions: what they go by, where they stand, and what
-// they set.
-ghost use Rattle.std.specs.Prelude.{◌≡◌};
-ghost use Rattle.record.specs.Kinds.{flags_of, overlaps, after_match, match_shift, forward_memory, backward_memory, set_forward, set_backward, forward_period_memory, backward_period_memory, forward_plan, backward_plan, forward_cursor, backward_cursor, moved_forward, moved_backward};
+// they set. Each function with a parameter BACKWARD is both directions: where they differ stands an `if` on it.
+ghost use Rattle.std.specs.Prelude.{◌≡◌, cond};
+ghost use Rattle.record.specs.Kinds.{flags_of, overlaps, after_match, match_shift, memory_of, set_memory, period_memory_of, plan_of, cursor_of, moved_to};
 
 use crate::{Fixed, Flags, Kind, Memory, Mode, Moving};
 use windows::{Cursor, Plan};
@@ -37,84 +37,52 @@ pub fn overlaps(mode: Mode) -> bool
     }
 }
 
-// What the memory is to each direction: a Long walk has none, and reads as if nothing were known.
-fn forward_memory(memory: Memory) -> usize
-    ensures { result ≡ forward_memory memory }
+// The memory where nothing is known, for a needle of m bytes.
+fn no_memory<const BACKWARD: bool>(m: usize) -> usize
+    ensures { result ≡ cond BACKWARD m 0 }
 {
-    match memory {
-        Memory::Long => 0,
-        Memory::Short {
-            forward,
-            backward: _,
-        } => forward,
-    }
+    if BACKWARD { m } else { 0 }
 }
 
-fn backward_memory(m: usize, memory: Memory) -> usize
-    ensures { result ≡ backward_memory m memory }
+// What the memory is to a direction: a Long walk has none, and reads as if nothing were known.
+fn memory_of<const BACKWARD: bool>(m: usize, memory: Memory) -> usize
+    ensures { result ≡ memory_of BACKWARD m memory }
 {
     match memory {
-        Memory::Long => m,
-        Memory::Short {
-            forward: _,
-            backward,
-        } => backward,
+        Memory::Long => no_memory::<BACKWARD>(m),
+        Memory::Short { forward, backward } => if BACKWARD { backward } else { forward },
     }
 }
 
 // The memory with one direction's number set.
-fn set_forward(k: usize, memory: Memory) -> Memory
-    ensures { result ≡ set_forward k memory }
+fn set_memory<const BACKWARD: bool>(k: usize, memory: Memory) -> Memory
+    ensures { result ≡ set_memory BACKWARD k memory }
 {
     match memory {
         Memory::Long => Memory::Long,
-        Memory::Short {
-            forward: _,
-            backward,
-        } => Memory::Short {
-            forward: k,
-            backward,
-        },
-    }
-}
-
-fn set_backward(k: usize, memory: Memory) -> Memory
-    ensures { result ≡ set_backward k memory }
-{
-    match memory {
-        Memory::Long => Memory::Long,
-        Memory::Short {
-            forward,
-            backward: _,
-        } => Memory::Short {
-            forward,
-            backward: k,
-        },
+        Memory::Short { forward, backward } => {
+            if BACKWARD {
+                Memory::Short {
+                    forward,
+                    backward: k,
+                }
+            } else {
+                Memory::Short {
+                    forward: k,
+                    backward,
+                }
+            }
+        }
     }
 }
 
 // The memory that a difference in the part that is compared second sets. A period above m fits no needle; nothing is remembered then.
-fn forward_period_memory(m: usize, period: usize, memory: Memory) -> usize
-    ensures { result ≡ forward_period_memory m period memory }
+fn period_memory_of<const BACKWARD: bool>(m: usize, period: usize, memory: Memory) -> usize
+    ensures { result ≡ period_memory_of BACKWARD m period memory }
 {
     match memory {
-        Memory::Long => 0,
-        Memory::Short {
-            forward: _,
-            backward: _,
-        } => { if period <= m { m - period } else { 0 } }
-    }
-}
-
-fn backward_period_memory(m: usize, period: usize, memory: Memory) -> usize
-    ensures { result ≡ backward_period_memory m period memory }
-{
-    match memory {
-        Memory::Long => m,
-        Memory::Short {
-            forward: _,
-            backward: _,
-        } => period,
+        Memory::Long => no_memory::<BACKWARD>(m),
+        Memory::Short { .. } => if BACKWARD { period } else { m.saturating_sub(period) },
     }
 }
 
@@ -130,83 +98,49 @@ fn after_match(mode: Mode, apart: usize, by_period: usize) -> usize
 fn match_shift(m: usize, fixed: Fixed) -> usize
     ensures { result ≡ match_shift m fixed }
 {
-    let mode = fixed.mode;
-    after_match(mode, m, fixed.period)
+    after_match(fixed.mode, m, fixed.period)
 }
 
 // What a walk in a direction goes by, for a needle of m bytes.
-pub fn forward_plan(m: usize, fixed: Fixed, memory: Memory) -> Plan
-    ensures { result ≡ forward_plan m fixed memory }
+pub fn plan<const BACKWARD: bool>(m: usize, fixed: Fixed, memory: Memory) -> Plan
+    ensures { result ≡ plan_of BACKWARD m fixed memory }
 {
-    let mode = fixed.mode;
-    let period_memory = forward_period_memory(m, fixed.period, memory);
+    let period_memory = period_memory_of::<BACKWARD>(m, fixed.period, memory);
     Plan {
-        split: fixed.crit_pos,
+        split: if BACKWARD { fixed.crit_pos_back } else { fixed.crit_pos },
         period: fixed.period,
         period_memory,
         shift: match_shift(m, fixed),
-        shift_memory: after_match(mode, 0, period_memory),
-    }
-}
-
-pub fn backward_plan(m: usize, fixed: Fixed, memory: Memory) -> Plan
-    ensures { result ≡ backward_plan m fixed memory }
-{
-    let mode = fixed.mode;
-    let period_memory = backward_period_memory(m, fixed.period, memory);
-    Plan {
-        split: fixed.crit_pos_back,
-        period: fixed.period,
-        period_memory,
-        shift: match_shift(m, fixed),
-        shift_memory: after_match(mode, m, period_memory),
+        shift_memory: after_match(fixed.mode, no_memory::<BACKWARD>(m), period_memory),
     }
 }
 
 // Where it stands.
-pub fn forward_cursor(moving: Moving) -> Cursor
-    ensures { result ≡ forward_cursor moving }
+pub fn cursor<const BACKWARD: bool>(m: usize, moving: Moving) -> Cursor
+    ensures { result ≡ cursor_of BACKWARD m moving }
 {
-    let memory = moving.memory;
     Cursor {
-        at: moving.position,
-        memory: forward_memory(memory),
-    }
-}
-
-pub fn backward_cursor(m: usize, moving: Moving) -> Cursor
-    ensures { result ≡ backward_cursor m moving }
-{
-    let memory = moving.memory;
-    Cursor {
-        at: moving.end,
-        memory: backward_memory(m, memory),
+        at: if BACKWARD { moving.end } else { moving.position },
+        memory: memory_of::<BACKWARD>(m, moving.memory),
     }
 }
 
 // The walk moved to a cursor of one direction; the other direction's stays.
-pub fn moved_forward(moving: Moving, to: Cursor) -> Moving
-    ensures { result ≡ moved_forward moving to }
+pub fn moved<const BACKWARD: bool>(moving: Moving, to: Cursor) -> Moving
+    ensures { result ≡ moved_to BACKWARD moving to }
 {
-    let memory = moving.memory;
-    let kind = moving.kind;
-    Moving {
-        position: to.at,
-        end: moving.end,
-        memory: set_forward(to.memory, memory),
-        kind,
-    }
-}
-
-pub fn moved_backward(moving: Moving, to: Cursor) -> Moving
-    ensures { result ≡ moved_backward moving to }
-{
-    let memory = moving.memory;
-    let kind = moving.kind;
-    Moving {
-        position: moving.position,
-        end: to.at,
-        memory: set_backward(to.memory, memory),
-        kind,
+    let memory = set_memory::<BACKWARD>(to.memory, moving.memory);
+    if BACKWARD {
+        Moving {
+            end: to.at,
+            memory,
+            ..moving
+        }
+    } else {
+        Moving {
+            position: to.at,
+            memory,
+            ..moving
+        }
     }
 }

@@ -6,10 +6,7 @@ mod fit;
 mod kinds;
 
 pub use fit::fits;
-pub use kinds::{
-    backward_cursor, backward_plan, flags_of, forward_cursor, forward_plan, moved_backward,
-    moved_forward, overlaps,
-};
+pub use kinds::{cursor, flags_of, moved, overlaps, plan};
 
 // What a walk remembers of the window before: nothing where the needle's period is long, else a number for each direction.
 #[derive(Clone, Copy)]
