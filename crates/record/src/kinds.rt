@@ -50,29 +50,25 @@ fn memory_of<const BACKWARD: bool>(m: usize, memory: Memory) -> usize
 {
     match memory {
         Memory::Long => no_memory::<BACKWARD>(m),
-        Memory::Short { forward, backward } => if BACKWARD { backward } else { forward },
+        Memory::Short { backward, .. } if BACKWARD => backward,
+        Memory::Short { forward, .. } => forward,
     }
 }
 
-// The memory with one direction's number set.
+// The memory with one direction's number set; the other direction's stays.
 fn set_memory<const BACKWARD: bool>(k: usize, memory: Memory) -> Memory
     ensures { result ≡ set_memory BACKWARD k memory }
 {
     match memory {
         Memory::Long => Memory::Long,
-        Memory::Short { forward, backward } => {
-            if BACKWARD {
-                Memory::Short {
-                    forward,
-                    backward: k,
-                }
-            } else {
-                Memory::Short {
-                    forward: k,
-                    backward,
-                }
-            }
-        }
+        Memory::Short { forward, .. } if BACKWARD => Memory::Short {
+            forward,
+            backward: k,
+        },
+        Memory::Short { backward, .. } => Memory::Short {
+            forward: k,
+            backward,
+        },
     }
 }
 
@@ -82,7 +78,8 @@ fn period_memory_of<const BACKWARD: bool>(m: usize, period: usize, memory: Memor
 {
     match memory {
         Memory::Long => no_memory::<BACKWARD>(m),
-        Memory::Short { .. } => if BACKWARD { period } else { m.saturating_sub(period) },
+        Memory::Short { .. } if BACKWARD => period,
+        Memory::Short { .. } => m.saturating_sub(period),
     }
 }
 
@@ -107,7 +104,11 @@ pub fn plan<const BACKWARD: bool>(m: usize, fixed: Fixed, memory: Memory) -> Pla
 {
     let period_memory = period_memory_of::<BACKWARD>(m, fixed.period, memory);
     Plan {
-        split: if BACKWARD { fixed.crit_pos_back } else { fixed.crit_pos },
+        split: if BACKWARD {
+            fixed.crit_pos_back
+        } else {
+            fixed.crit_pos
+        },
         period: fixed.period,
         period_memory,
         shift: match_shift(m, fixed),
@@ -120,7 +121,11 @@ pub fn cursor<const BACKWARD: bool>(m: usize, moving: Moving) -> Cursor
     ensures { result ≡ cursor_of BACKWARD m moving }
 {
     Cursor {
-        at: if BACKWARD { moving.end } else { moving.position },
+        at: if BACKWARD {
+            moving.end
+        } else {
+            moving.position
+        },
         memory: memory_of::<BACKWARD>(m, moving.memory),
     }
 }
