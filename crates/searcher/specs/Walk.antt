@@ -1,10 +1,10 @@
 -- Preparing and the four calls of a walk, in 01's terms: what each answers, the next state, and the counts.
 -- Assumes nothing.
-use Rattle.std.specs.Prelude.{ℕ, true, false, List}
-use Rattle.std.specs.Prelude.{Option, None, Some}
+use Rattle.std.specs.Prelude.{ℕ, true, false, List, Option, None, Some, Result, Ok, Err}
 use Rattle.limits.specs.Refusals.{number_of}
-use Rattle.limits.specs.Said.{Said, refused, given}
-use Rattle.prepare.specs.Prepare.{preparation_said, PartsTold, prepare_rule, NoState}
+use Rattle.limits.specs.Said.{Said, refused, given, said}
+use Rattle.limits.specs.declared.Refusal.{Refusal}
+use Rattle.prepare.specs.Prepare.{PartsTold, prepare_rule, NoState}
 use Rattle.record.specs.declared.Counts.{Counts}
 use Rattle.record.specs.declared.Fixed.{Fixed}
 use Rattle.record.specs.declared.Mode.{Mode}
@@ -12,11 +12,8 @@ use Rattle.search.specs.Calls.{forward_call, backward_call}
 use Rattle.search.specs.declared.Ending.{Ending}
 use Rattle.search.specs.declared.Walked.{Walked}
 use Rattle.searcher.specs.declared.TwoWaySearcher.{TwoWaySearcher}
-use Rattle.searcher.specs.declared.Prepared.{Prepared}
+use Rattle.searcher.specs.declared.Called.{Called}
 use Rattle.searcher.specs.declared.Step.{Step}
-use Rattle.searcher.specs.declared.NextMatch.{NextMatch}
-use Rattle.searcher.specs.declared.Stepped.{Stepped}
-use Rattle.searcher.specs.declared.Matched.{Matched}
 
 -- ---- 01's terms
 
@@ -27,17 +24,11 @@ pub data StepTerm : Type 0 where
   done : StepTerm
 
 -- what a step's answer says
-abbrev pub step_said : Step → Said StepTerm
-step_said (Step.Match a b) = given (match a b)
-step_said (Step.Reject a b) = given (reject a b)
-step_said Step.Done = given done
-step_said (Step.Refused why) = refused (number_of why)
-
--- and a next match's: both ends of the match, or none
-abbrev pub match_said : NextMatch → Said (Option (ℕ × ℕ))
-match_said (NextMatch.Match a b) = given (Some (a, b))
-match_said NextMatch.Nothing = given None
-match_said (NextMatch.Refused why) = refused (number_of why)
+abbrev pub step_said : Result Step Refusal → Said StepTerm
+step_said (Ok (Step.Match a b)) = given (match a b)
+step_said (Ok (Step.Reject a b)) = given (reject a b)
+step_said (Ok Step.Done) = given done
+step_said (Err why) = refused (number_of why)
 
 -- what a call tells: its answer, the next state, and the counts
 pub record CallTold (A : Type 0) : Type 0 where
@@ -45,14 +36,13 @@ pub record CallTold (A : Type 0) : Type 0 where
   pub walk : TwoWaySearcher
   pub counts : Counts
 
-abbrev pub prepared_told : Prepared → CallTold (Unit {0})
-prepared_told r = record { answer = preparation_said r.answer; walk = r.walk; counts = r.counts }
+-- of preparing, and of a next match, which gives both ends of the match, or none
+abbrev pub told : {A : Type 0} → Called A → CallTold A
+told r = record { answer = said r.answer; walk = r.walk; counts = r.counts }
 
-abbrev pub stepped_told : Stepped → CallTold StepTerm
+-- of a step
+abbrev pub stepped_told : Called Step → CallTold StepTerm
 stepped_told r = record { answer = step_said r.answer; walk = r.walk; counts = r.counts }
-
-abbrev pub matched_told : Matched → CallTold (Option (ℕ × ℕ))
-matched_told r = record { answer = match_said r.answer; walk = r.walk; counts = r.counts }
 
 -- ---- the calls
 
@@ -68,20 +58,20 @@ abbrev pub NoWalk : CallTold (Unit {0}) → Type 0
 NoWalk r = NoState (record { answer = r.answer; fixed = r.walk.fixed; moving = r.walk.moving; counts = r.counts })
 
 -- what a call is to a step: "Match(a, a+m)", "Done", or a Reject from `low` to `high`
-abbrev pub step_answer : Ending → ℕ → ℕ → Said StepTerm
-step_answer (Ending.Refused why) low high = refused (number_of why)
-step_answer Ending.Done low high = given done
-step_answer (Ending.Match a b) low high = given (match a b)
-step_answer Ending.Passed low high = given (reject low high)
-step_answer Ending.Out low high = given (reject low high)
+abbrev pub step_answer : Result Ending Refusal → ℕ → ℕ → Said StepTerm
+step_answer (Ok Ending.Done) low high = given done
+step_answer (Ok (Ending.Match a b)) low high = given (match a b)
+step_answer (Ok Ending.Passed) low high = given (reject low high)
+step_answer (Ok Ending.Out) low high = given (reject low high)
+step_answer (Err why) low high = refused (number_of why)
 
 -- and to a next match: "without Done and without the middle Reject, answering none instead of the last Reject"
-abbrev pub match_answer : Ending → Said (Option (ℕ × ℕ))
-match_answer (Ending.Refused why) = refused (number_of why)
-match_answer Ending.Done = given None
-match_answer (Ending.Match a b) = given (Some (a, b))
-match_answer Ending.Passed = given None
-match_answer Ending.Out = given None
+abbrev pub match_answer : Result Ending Refusal → Said (Option (ℕ × ℕ))
+match_answer (Ok Ending.Done) = given None
+match_answer (Ok (Ending.Match a b)) = given (Some (a, b))
+match_answer (Ok Ending.Passed) = given None
+match_answer (Ok Ending.Out) = given None
+match_answer (Err why) = refused (number_of why)
 
 -- either as it is handed back, with what preparing fixed
 abbrev pub step_of : Fixed → Walked → ℕ → ℕ → CallTold StepTerm
@@ -91,6 +81,10 @@ step_of f called low high =
 abbrev pub match_of : Fixed → Walked → CallTold (Option (ℕ × ℕ))
 match_of f called =
     record { answer = match_answer called.ending; walk = record { fixed = f; moving = called.moving }; counts = called.counts }
+
+-- and what the code hands back, of an answer
+abbrev pub called_of : {A : Type 0} → Fixed → Walked → Result A Refusal → Called A
+called_of f called answer = record { answer = answer; walk = record { fixed = f; moving = called.moving }; counts = called.counts }
 
 -- one step forward: a Reject is "Reject(old, position)"
 abbrev pub next_rule : List ℕ → List ℕ → TwoWaySearcher → CallTold StepTerm

@@ -2,11 +2,11 @@
 #![tactic(auto)]
 
 ghost use Rattle.std.specs.Prelude.{◌≡◌};
+ghost use Rattle.limits.specs.Said.{said};
 ghost use Rattle.record.specs.Fits.{fits};
-ghost use Rattle.searcher.specs.Walk.{step_said, match_said, prepared_told, stepped_told, matched_told, new_rule, NoWalk, step_answer, match_answer, step_of, match_of, next_rule, next_back_rule, next_match_rule, next_match_back_rule};
+ghost use Rattle.searcher.specs.Walk.{step_said, told, stepped_told, new_rule, NoWalk, step_answer, match_answer, called_of, next_rule, next_back_rule, next_match_rule, next_match_back_rule};
 
 use limits::Refusal;
-pub use prepare::Preparation;
 pub use record::{Counts, Fixed, Kind, Memory, Mode, Moving};
 use search::{Ending, Walked};
 
@@ -17,93 +17,60 @@ pub struct TwoWaySearcher {
     pub moving: Moving,
 }
 
-// What preparing answers. Where it refuses, `walk` is no state.
+// What a call hands back: its answer, the state that follows it, and what it cost. Where preparing refuses, `walk` is no state.
 #[derive(Clone, Copy)]
-pub struct Prepared {
-    pub answer: Preparation,
+pub struct Called<A> {
+    pub answer: Result<A, Refusal>,
     pub walk: TwoWaySearcher,
     pub counts: Counts,
 }
 
-// What one step answers: the part of the haystack that it settled, or that there is nothing left.
+// What one step gives: the part of the haystack that it settled, or that there is nothing left.
 #[derive(Clone, Copy)]
 pub enum Step {
     Match(usize, usize),
     Reject(usize, usize),
     Done,
-    Refused(Refusal),
 }
 
-#[derive(Clone, Copy)]
-pub struct Stepped {
-    pub answer: Step,
-    pub walk: TwoWaySearcher,
-    pub counts: Counts,
-}
+// Preparing gives the state alone, and a next match both ends of the match, or none.
+pub type Prepared = Called<()>;
 
-#[derive(Clone, Copy)]
-pub enum NextMatch {
-    Match(usize, usize),
-    Nothing,
-    Refused(Refusal),
-}
+pub type Stepped = Called<Step>;
 
-#[derive(Clone, Copy)]
-pub struct Matched {
-    pub answer: NextMatch,
-    pub walk: TwoWaySearcher,
-    pub counts: Counts,
-}
+pub type Matched = Called<Option<(usize, usize)>>;
 
 // What a call came to, as a step, whose Reject reaches from `low` to `high`, and as a next match.
-fn step_answer(ending: Ending, low: usize, high: usize) -> Step
+fn step_answer(ending: Result<Ending, Refusal>, low: usize, high: usize) -> Result<Step, Refusal>
     ensures { step_said result ≡ step_answer ending low high }
 {
-    match ending {
-        Ending::Refused(why) => Step::Refused(why),
+    Ok(match ending? {
         Ending::Done => Step::Done,
         Ending::Match(a, b) => Step::Match(a, b),
-        Ending::Passed => Step::Reject(low, high),
-        Ending::Out => Step::Reject(low, high),
-    }
+        Ending::Passed | Ending::Out => Step::Reject(low, high),
+    })
 }
 
-fn match_answer(ending: Ending) -> NextMatch
-    ensures { match_said result ≡ match_answer ending }
+fn match_answer(ending: Result<Ending, Refusal>) -> Result<Option<(usize, usize)>, Refusal>
+    ensures { said result ≡ match_answer ending }
 {
-    match ending {
-        Ending::Refused(why) => NextMatch::Refused(why),
-        Ending::Done => NextMatch::Nothing,
-        Ending::Match(a, b) => NextMatch::Match(a, b),
-        Ending::Passed => NextMatch::Nothing,
-        Ending::Out => NextMatch::Nothing,
-    }
+    Ok(match ending? {
+        Ending::Match(a, b) => Some((a, b)),
+        Ending::Done | Ending::Passed | Ending::Out => None,
+    })
 }
 
 // What a call came to, as it is handed back, with the part of the state that no call changes.
-fn step_of(fixed: Fixed, called: Walked, low: usize, high: usize) -> Stepped
-    ensures { stepped_told result ≡ step_of fixed called low high }
+fn called_of<A: Copy>(fixed: Fixed, called: Walked, answer: Result<A, Refusal>) -> Called<A>
+    ensures { result ≡ called_of fixed called answer }
 {
-    let ending = called.ending;
-    let moving = called.moving;
-    let counts = called.counts;
-    Stepped {
-        answer: step_answer(ending, low, high),
-        walk: TwoWaySearcher { fixed, moving },
-        counts,
-    }
-}
-
-fn match_of(fixed: Fixed, called: Walked) -> Matched
-    ensures { matched_told result ≡ match_of fixed called }
-{
-    let ending = called.ending;
-    let moving = called.moving;
-    let counts = called.counts;
-    Matched {
-        answer: match_answer(ending),
-        walk: TwoWaySearcher { fixed, moving },
-        counts,
+    Called {
+        answer,
+        walk: TwoWaySearcher {
+            fixed,
+            moving: called.moving,
+        },
+        counts: called.counts,
     }
 }
 
@@ -111,18 +78,17 @@ impl TwoWaySearcher {
     // Prepares a walk for a needle in a haystack of `end` bytes. Its mode says whether next matches may overlap; no call changes it.
     // Where preparing refuses, what stands in `walk` fits nothing (`NoWalk`).
     pub fn new(needle: &[u8], end: usize, mode: Mode) -> Prepared
-        ensures rule { prepared_told result ≡ new_rule needle.now «end» mode }
-        ensures meaning { NoWalk (prepared_told result) }
+        ensures rule { told result ≡ new_rule needle.now «end» mode }
+        ensures meaning { NoWalk (told result) }
     {
         let parts = prepare::prepare(needle, end, mode);
-        let answer = parts.answer;
-        let fixed = parts.fixed;
-        let moving = parts.moving;
-        let counts = parts.counts;
-        Prepared {
-            answer,
-            walk: TwoWaySearcher { fixed, moving },
-            counts,
+        Called {
+            answer: parts.answer,
+            walk: TwoWaySearcher {
+                fixed: parts.fixed,
+                moving: parts.moving,
+            },
+            counts: parts.counts,
         }
     }
 
@@ -140,37 +106,39 @@ impl TwoWaySearcher {
     pub fn next(self, haystack: &[u8], needle: &[u8]) -> Stepped
         ensures { stepped_told result ≡ next_rule needle.now haystack.now self }
     {
-        let fixed = self.fixed;
-        let called = search::forward(haystack, needle, fixed, self.moving, true);
-        step_of(fixed, called, self.moving.position, called.moving.position)
+        let Self { fixed, moving } = self;
+        let called = search::forward(haystack, needle, fixed, moving, true);
+        let answer = step_answer(called.ending, moving.position, called.moving.position);
+        called_of(fixed, called, answer)
     }
 
     // One step backward: the part before `end` that is a match, or in which none ends (`NextBackMeans`).
     pub fn next_back(self, haystack: &[u8], needle: &[u8]) -> Stepped
         ensures { stepped_told result ≡ next_back_rule needle.now haystack.now self }
     {
-        let fixed = self.fixed;
-        let called = search::backward(haystack, needle, fixed, self.moving, true);
-        step_of(fixed, called, called.moving.end, self.moving.end)
+        let Self { fixed, moving } = self;
+        let called = search::backward(haystack, needle, fixed, moving, true);
+        let answer = step_answer(called.ending, called.moving.end, moving.end);
+        called_of(fixed, called, answer)
     }
 
     // The next match forward: the least occurrence that is still to be given, from `position` on, or nothing exactly if there is none
     // (`NextMatchMeans`).
     pub fn next_match(self, haystack: &[u8], needle: &[u8]) -> Matched
-        ensures { matched_told result ≡ next_match_rule needle.now haystack.now self }
+        ensures { told result ≡ next_match_rule needle.now haystack.now self }
     {
-        let fixed = self.fixed;
-        let called = search::forward(haystack, needle, fixed, self.moving, false);
-        match_of(fixed, called)
+        let Self { fixed, moving } = self;
+        let called = search::forward(haystack, needle, fixed, moving, false);
+        called_of(fixed, called, match_answer(called.ending))
     }
 
     // The next match backward: the greatest occurrence that is still to be given, that ends at `end` or before it, or nothing exactly
     // if there is none (`NextMatchBackMeans`).
     pub fn next_match_back(self, haystack: &[u8], needle: &[u8]) -> Matched
-        ensures { matched_told result ≡ next_match_back_rule needle.now haystack.now self }
+        ensures { told result ≡ next_match_back_rule needle.now haystack.now self }
     {
-        let fixed = self.fixed;
-        let called = search::backward(haystack, needle, fixed, self.moving, false);
-        match_of(fixed, called)
+        let Self { fixed, moving } = self;
+        let called = search::backward(haystack, needle, fixed, moving, false);
+        called_of(fixed, called, match_answer(called.ending))
     }
 }

@@ -1,8 +1,0 @@
--- `searcher::TwoWaySearcher::next_match_back` meets its contract.
--- Assumes nothing.
-use Rattle.searcher.proofs.Laws.{next_match_back_is}
-use borrow.Author.Rules.{rules}
-use Rattle.searcher.proofs.TwoWaySearcher.next_match_back.Goals as goal
-
-pub returns : goal.returns
-returns c = search (rules, next_match_back_is)
