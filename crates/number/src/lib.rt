@@ -6,11 +6,11 @@ ghost use Rattle.std.specs.Prelude.{◌≡◌, min, max};
 pub fn larger(a: usize, b: usize) -> usize
     ensures { result ≡ max a b }
 {
-    if a < b { b } else { a }
+    a.max(b)
 }
 
 pub fn smaller(a: usize, b: usize) -> usize
     ensures { result ≡ min a b }
 {
-    if a < b { a } else { b }
+    a.min(b)
 }
