@@ -1,10 +1,8 @@
 -- What stands in a few lines, computed from the definitions: one table under one claim.
 -- 32 is a space, 45 `-`, 48 `0`, 58 `:`, 66 `B`, 97 `a`, 102 `f`. Assumes nothing.
-use Rattle.std.specs.Prelude.{ℕ, Bool, cond, List, [], ◌∷◌, T}
+use Rattle.std.specs.Prelude.{ℕ, Bool, cond, List, [], ◌∷◌, T, Option, Some, None}
 use Rattle.words.specs.Examples.{Example, same, all_as_stated}
-use Rattle.lines.specs.Reading.{is_end, first_index, is_letter, all_letters, is_script, skipped}
-use Rattle.lines.specs.declared.Cursor.{Cursor}
-use Rattle.lines.specs.declared.Cursor.TheVariants.{At, Lost}
+use Rattle.lines.specs.Reading.{is_end, first_index, is_script, skipped}
 
 -- `-:1 27 0f`
 abbrev pub line : List ℕ
@@ -15,9 +13,9 @@ abbrev pub answer : Bool → ℕ
 answer b = cond b 1 0
 
 -- where reading stands is written as the list of it alone, and nowhere as the empty list
-abbrev pub place : Cursor → List ℕ
-place (At k) = k ∷ []
-place Lost = []
+abbrev pub place : Option ℕ → List ℕ
+place (Some k) = k ∷ []
+place None = []
 
 abbrev pub table : List Example
 table =
@@ -26,12 +24,12 @@ table =
     -- `fB` is a script, `fa` and the empty word are none
     ∷ record { computed = answer (is_script (102 ∷ 66 ∷ [])) ∷ answer (is_script (102 ∷ 97 ∷ [])) ∷ answer (is_script []) ∷ []; stated = 1 ∷ 0 ∷ 0 ∷ [] }
     -- the line is read at 9, and not at 8
-    ∷ record { computed = answer (is_end 9 (At 9)) ∷ answer (is_end 9 (At 8)) ∷ []; stated = 1 ∷ 0 ∷ [] }
+    ∷ record { computed = answer (is_end 9 (Some 9)) ∷ answer (is_end 9 (Some 8)) ∷ []; stated = 1 ∷ 0 ∷ [] }
     -- `-` is skipped, `:` does not stand at the front
-    ∷ record { computed = place (skipped line (At 0) 45); stated = 1 ∷ [] }
-    ∷ record { computed = place (skipped line (At 0) 58); stated = [] }
+    ∷ record { computed = place (skipped line (Some 0) 45); stated = 1 ∷ [] }
+    ∷ record { computed = place (skipped line (Some 0) 58); stated = [] }
     ∷ []
 
 pub examples : T (all_as_stated table)
-unfolding all_as_stated same first_index is_letter all_letters is_script skipped
+unfolding all_as_stated same
 examples = tt

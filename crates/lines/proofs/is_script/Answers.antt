@@ -1,22 +1,17 @@
-use mathlib.Core.Path.{refl, sym, ◌∙◌}
-use native.Mathlib.Omega.{arith}
-use Rattle.lines.proofs.Laws.{letters_next, letters_end, letters_not}
+-- `lines::is_script` meets its contract. Assumes nothing.
+use Rattle.std.proofs.Common.{◌≡◌, arith, rules}
+use Rattle.std.proofs.lemmas.Iterator.{YieldsList-from_slice}
+use Rattle.std.proofs.lemmas.Iterator.Search.{all_from_yields_List}
+use Rattle.std.specs.List.{list_all}
+use Rattle.std.proofs.lemmas.Bool.Decides.{nat_tests}
+use borrow.Author.Tests.{tests}
+use Rattle.lines.specs.Reading.{is_letter}
 use Rattle.lines.proofs.is_script.Goals as goal
 
-pub loop-i-init : goal.loop-i-init
-loop-i-init c = (omega arith, refl)
-
-pub returns-then-not-is_letter : goal.returns-then-not-is_letter
-returns-then-not-is_letter c =
+pub returns-then-not-is_empty : goal.returns-then-not-is_empty
+returns-then-not-is_empty c =
     let s = c.args.s.now in
-    let loop = c.loop-i in
-    record { rule = letters_not s loop.i (omega arith) (sym c.is_letter.ensures.rule ∙ c.if-not-is_letter.true) loop.invariant.1 }
-
-pub loop-i-preserved : goal.loop-i-preserved
-loop-i-preserved c =
-    let s = c.args.s.now in
-    let loop = c.loop-i in
-    (omega arith, sym (letters_next s loop.i (omega arith) (sym c.is_letter.ensures.rule ∙ c.if-not-is_letter.false)) ∙ loop.invariant.1)
-
-pub returns : goal.returns
-returns c = record { rule = letters_end c.args.s.now c.loop-i.i c.loop-i-test.false c.loop-i.invariant.1 }
+    let every : c.all.result ≡ list_all is_letter s =
+    all_from_yields_List is_letter _ _ c.all.result c.all.ensures.ran (YieldsList-from_slice _ c.iter.ensures.rest) (λ x b q k. search (rules, tests))
+    in
+    grind (arith, nat_tests, every)
