@@ -3,7 +3,7 @@
 use Rattle.std.specs.Prelude.{List, [], ◌∷◌, T}
 use Rattle.std.proofs.lemmas.List.Edits.{sets}
 use Rattle.words.specs.Examples.{Example, same, all_as_stated}
-use Rattle.printing.specs.Printing.{decimal_size, decimal_text, hex_text, spent, part_text, form_from, form_text}
+use Rattle.printing.specs.Printing.{decimal_size, decimal_text, hex_text, spent, part_text, form_text}
 
 abbrev pub table : List Example
 table =
@@ -17,5 +17,5 @@ table =
     ∷ []
 
 pub examples : T (all_as_stated table)
-unfolding all_as_stated same decimal_size decimal_text hex_text spent part_text form_from form_text
+unfolding all_as_stated same decimal_size decimal_text hex_text spent part_text form_text
 examples = tt

@@ -1,6 +1,6 @@
 -- What the contracts of the printers cite: the room after a text was printed into it.
 -- Assumes nothing.
-use Rattle.std.specs.Prelude.{ℕ, zero, suc, ◌+◌, ◌/◌, min, ◌≡◌, cond, List, [], ◌∷◌, ◌++◌, ltb, eqb, length, get_or}
+use Rattle.std.specs.Prelude.{ℕ, zero, suc, ◌+◌, ◌/◌, min, ◌≡◌, cond, List, [], ◌∷◌, ◌++◌, ltb, eqb, length, drop, Option, Some, None}
 use Rattle.std.proofs.lemmas.List.Edits.{sets}
 use Rattle.io.specs.Digits.{last_digits}
 
@@ -22,20 +22,23 @@ decimal_size (suc most) n = cond (ltb n 10) 1 (decimal_size most (n / 10) + 1)
 unfoldable pub decimal_text : ℕ → List ℕ
 decimal_text n = last_digits 10 (decimal_size 20 n) n
 
--- how many numbers the byte b of a form stands for, where k of `size` are spent: one for a mark, `#` (35) or `%` (37), while there are some
-unfoldable pub spent : ℕ → ℕ → ℕ → ℕ
-spent b k size = cond (ltb k size) (cond (eqb b 35) 1 (cond (eqb b 37) 1 0)) 0
+-- the number that the byte b of a form stands for, where `numbers` are left: one for a mark, `#` (35) or `%` (37), while there are some
+unfoldable pub spent : ℕ → List ℕ → Option ℕ
+spent b [] = None
+spent b (n ∷ numbers) = cond (eqb b 35) (Some n) (cond (eqb b 37) (Some n) None)
+
+-- the numbers that are left behind it
+abbrev pub left_of : Option ℕ → List ℕ → List ℕ
+left_of None numbers = numbers
+left_of (Some n) numbers = drop 1 numbers
 
 -- the text of the byte b of a form: itself where it stands for no number, else the number n, in hex for `%`
-unfoldable pub part_text : ℕ → ℕ → ℕ → List ℕ
-part_text zero b n = b ∷ []
-part_text (suc more) b n = cond (eqb b 37) (hex_text n) (decimal_text n)
+unfoldable pub part_text : Option ℕ → ℕ → List ℕ
+part_text None b = b ∷ []
+part_text (Some n) b = cond (eqb b 37) (hex_text n) (decimal_text n)
 
--- a form in text, where k of the numbers are spent
-unfoldable pub form_from : ℕ → List ℕ → List ℕ → List ℕ
-form_from k [] numbers = []
-form_from k (b ∷ form) numbers =
-    part_text (spent b k (length numbers)) b (get_or numbers k 0) ++ form_from (k + spent b k (length numbers)) form numbers
-
+-- a form in text
 unfoldable pub form_text : List ℕ → List ℕ → List ℕ
-form_text form numbers = form_from 0 form numbers
+form_text [] numbers = []
+form_text (b ∷ form) numbers =
+    part_text (spent b numbers) b ++ form_text form (left_of (spent b numbers) numbers)

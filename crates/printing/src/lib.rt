@@ -2,30 +2,22 @@
 // where the place is before the end.
 #![tactic(auto)]
 
-ghost use Rattle.std.specs.Prelude.{◌≡◌, ◌+◌, ◌*◌, ◌≤◌, min, max, length, get_or};
+ghost use Rattle.std.specs.Prelude.{◌≡◌, ◌+◌, ◌*◌, ◌≤◌, length, is_some, cond};
+ghost use Rattle.std.specs.Slice.Iter.{iter_rest};
 ghost use Rattle.printing.specs.InRoom.{InRoom};
-ghost use Rattle.printing.specs.Printing.{Prints, decimal_text, hex_text, spent, part_text, form_text};
+ghost use Rattle.printing.specs.Printing.{Prints, decimal_text, hex_text, spent, left_of, part_text, form_text};
+
+use std::slice::Iter;
 
 // Prints `text` at `at`, and gives the place behind it.
 fn put(out: &mut [u8], at: usize, text: &[u8]) -> usize
     ensures in_room { InRoom out.new (at + length text.now) result }
     ensures rule { Prints out.old at text.now out.new result }
 {
-    let room = out.len();
-    if room <= at {
-        return room;
-    }
-    let mut to = at;
-    let mut i = 0;
-    while i < text.len() {
-        if room <= to {
-            break;
-        }
-        out[to] = text[i];
-        to += 1;
-        i += 1;
-    }
-    to
+    let at = at.min(out.len());
+    let fits = text.len().min(out.len() - at);
+    out[at..at + fits].copy_from_slice(&text[..fits]);
+    at + fits
 }
 
 // Prints a number in decimal digits.
@@ -48,52 +40,29 @@ fn put_set(out: &mut [u8], at: usize, set: u64) -> usize
     put(out, at, &digits[..count])
 }
 
-fn least(a: usize, b: usize) -> usize
-    ensures { result ≡ min a b }
+// The number that the byte `b` of a form stands for: for a mark the next of those that are left, as long as there are some.
+#[tactic(auto, unfolding(crate::specs::Printing::spent))]
+fn spend(b: u8, left: &mut Iter<usize>) -> Option<usize>
+    ensures rule { result ≡ spent b (iter_rest left.old) }
+    ensures rest { iter_rest left.new ≡ left_of result (iter_rest left.old) }
 {
-    if a < b {
-        return a;
-    }
-    b
-}
-
-// The number at `k`, or 0 where there is none.
-fn number_at(numbers: &[usize], k: usize) -> usize
-    ensures { result ≡ get_or numbers.now k 0 }
-{
-    if numbers.len() <= k {
-        return 0;
-    }
-    numbers[k]
-}
-
-// How many numbers the byte `b` of a form stands for: 1 for a mark, as long as there are numbers, of which there are `size`.
-fn spends(b: u8, k: usize, size: usize) -> usize
-    ensures upper_bound { (result ≤ 1) × (k + result ≤ max k size) }
-    ensures rule { result ≡ spent b k size }
-{
-    if size <= k {
-        return 0;
-    }
     match b {
-        b'#' | b'%' => 1,
-        _ => 0,
+        b'#' | b'%' => left.next().copied(),
+        _ => None,
     }
 }
 
 // Prints a byte of a form, or the number that it stands for: in hex digits for `%`, else in decimal ones.
-fn put_part(out: &mut [u8], at: usize, b: u8, number: usize, spending: usize) -> usize
-    requires { spending ≤ 1 }
-    ensures in_room { InRoom out.new (at + 1 + 19 * spending) result }
-    ensures rule { Prints out.old at (part_text spending b number) out.new result }
+#[tactic(auto, unfolding(crate::specs::Printing::part_text))]
+fn put_part(out: &mut [u8], at: usize, b: u8, number: Option<usize>) -> usize
+    ensures in_room { InRoom out.new (at + cond (is_some number) 20 1) result }
+    ensures rule { Prints out.old at (part_text number b) out.new result }
 {
-    if spending == 0 {
-        return put(out, at, &[b]);
+    match number {
+        None => put(out, at, &[b]),
+        Some(set) if b == b'%' => put_set(out, at, set as u64),
+        Some(number) => put_number(out, at, number),
     }
-    if b == b'%' {
-        return put_set(out, at, number as u64);
-    }
-    put_number(out, at, number)
 }
 
 // Prints a form, with the next of the numbers in place of each of its marks: `#` for a number in decimal digits, `%` for a set in hex ones.
@@ -101,14 +70,10 @@ pub fn put_form(out: &mut [u8], start: usize, form: &[u8], numbers: &[usize]) ->
     ensures in_room { InRoom out.new (start + length form.now + 19 * length numbers.now) result }
     ensures rule { Prints out.old start (form_text form.now numbers.now) out.new result }
 {
-    let mut at = least(start, out.len());
-    let mut i = 0;
-    let mut k = 0;
-    while i < form.len() {
-        let spending = spends(form[i], k, numbers.len());
-        at = put_part(out, at, form[i], number_at(numbers, k), spending);
-        k += spending;
-        i += 1;
+    let mut at = start.min(out.len());
+    let mut left = numbers.iter();
+    for &b in form {
+        at = put_part(out, at, b, spend(b, &mut left));
     }
     at
 }

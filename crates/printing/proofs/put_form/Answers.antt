@@ -1,29 +1,27 @@
+use mathlib.Core.Path.{ap}
 use native.Mathlib.Omega.{arith}
-use borrow.Author.Rules.{rules}
-use Rattle.printing.proofs.Laws.{form_begins, form_moves, form_ends}
+use lib.ListN.{length}
+use Rattle.printing.proofs.Laws.{form_begins, form_moves, form_ends, spent_is_left}
 use Rattle.printing.proofs.put_form.Goals as goal
 
-pub loop-i-init : goal.loop-i-init
-loop-i-init c = (omega arith, omega arith, omega arith, omega arith, omega arith, omega arith, search (rules, form_begins))
+pub loop-b-init : goal.loop-b-init
+loop-b-init c =
+    let rest = c.iter-left.ensures.rest in
+    record {
+      within = omega arith;
+      most = omega (arith, ap length rest);
+      shown = rw rest (form_begins c.args.out.now c.args.form.now c.args.numbers.now c.args.start c.min-at.result c.min-at.ensures);
+    }
 
-pub loop-i-smaller : goal.loop-i-smaller
-loop-i-smaller c = omega (arith, c.loop-i-test.true)
+pub loop-b-preserved : goal.loop-b-preserved
+loop-b-preserved c =
+    let spend = c.spend.ensures in
+    let part = c.put_part-at.ensures in
+    record {
+      within = omega arith;
+      most = omega (arith, spent_is_left _ _ _ _ spend.rule spend.rest);
+      shown = form_moves _ _ _ _ _ _ _ _ _ _ _ _ c.loop-b-test.true spend.rule spend.rest part.rule c.loop-b.invariant.shown;
+    }
 
-pub loop-i-preserved : goal.loop-i-preserved
-loop-i-preserved c = (
-  omega arith,
-  omega arith,
-  omega arith,
-  omega arith,
-  omega arith,
-  omega arith,
-  form_moves _ _ _ _ _ _ _ _ _ _ _ _
-      c.loop-i-test.true
-      c.spends-spending.ensures.rule
-      c.number_at.ensures
-      c.put_part-at.ensures.rule
-      c.loop-i.invariant.6,
-)
-
-pub returns : goal.returns
-returns c = record { in_room = omega arith; rule = search (rules, form_ends) }
+pub returns-clause-rule : goal.returns-clause-rule
+returns-clause-rule c = form_ends c.args.out.now c.loop-b.out c.args.form.now _ _ c.args.start c.loop-b.at _ c.loop-b-test.false c.loop-b.invariant.within c.loop-b.invariant.shown

@@ -1,15 +1,17 @@
 -- `printing::put_form` meets its contract. The loop's invariant: the room keeps its length, and the place is within it, at most a byte farther for each byte of the form
 -- and 19 more for each number; what is left of the form, printed there, leaves the room that the whole form leaves.
--- The measure is what is left of the form. Assumes nothing.
-use Prim.Native.Nat.{◌+◌, ◌-◌, ◌*◌, ◌≤◌}
+-- Assumes nothing.
+use Prim.Native.Nat.{◌+◌, ◌*◌, ◌≤◌}
 use mathlib.Core.Path.{◌≡◌}
 use lib.ListN.{length, drop}
-use Rattle.printing.specs.Printing.{form_from}
+use Rattle.std.specs.Slice.Iter.{iter_rest}
+use Rattle.printing.specs.Printing.{form_text}
 use Rattle.printing.proofs.Laws.{Same}
 use Rattle.printing.proofs.put_form.Given as goal
 
-abbrev pub invariant-loop-i : goal.invariant-loop-i
-invariant-loop-i l = (length l.out ≡ length l.initial.out) × (l.at ≤ length l.out) × (l.at ≤ l.start + l.i + 19 * l.k) × (l.i ≤ length l.form) × (l.k ≤ l.i) × (l.k ≤ length l.numbers) × Same l.out l.at (form_from l.k (drop l.i l.form) l.numbers) l.initial.out l.start (form_from 0 l.form l.numbers)
-
-abbrev pub decreases-loop-i : goal.decreases-loop-i
-decreases-loop-i l = length l.form - l.i
+abbrev pub invariant-loop-b : goal.invariant-loop-b
+invariant-loop-b l = record {
+  within : l.at ≤ length l.out;
+  most : l.at + 19 * length (iter_rest l.left) ≤ l.start + l.b-index + 19 * length l.numbers;
+  shown : Same l.out l.at (form_text (drop l.b-index l.form) (iter_rest l.left)) l.initial.out l.start (form_text l.form l.numbers);
+}
