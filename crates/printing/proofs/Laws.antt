@@ -4,7 +4,6 @@ use Prim.Native.Nat.{ℕ, suc, ◌+◌, ◌-◌, ◌*◌, ◌<◌, ◌≤◌, mi
 use mathlib.Core.Path.{◌≡◌, refl, sym, ◌∙◌, ap}
 use mathlib.Core.Bool.{cond}
 use mathlib.Core.List.{List, [], ◌∷◌, ◌++◌, append_assoc}
-use mathlib.Core.Logic.{◌⊎◌, inl, inr}
 use native.Mathlib.Numerals.{add-one}
 use native.Mathlib.Decide.{dec_lt}
 use native.Mathlib.Omega.{arith}
@@ -56,8 +55,7 @@ pub prints_fitting : (room text part : List ℕ) (i a k e : ℕ) → a ≡ min i
 prints_fitting room text part i a k e place fits is kept =
     let size : k ≡ length part = omega (arith, ap length kept, length-take k text) in
     let pasted : put_mid a e room part ≡ paste room a part k = put_mid-paste a e room part part k refl (sym is) size in
-    let stored : paste room a part k ≡ sets room a part = paste_all room a part k size ∙ rw (size, ← append_assoc) (sym (sets-eq part room a (omega arith))) in
-    (
+    let stored : paste room a part k ≡ sets room a part = paste_all room a part k size ∙ rw (size, ← append_assoc) (sym (sets-eq part room a (omega arith))) in (
       omega arith,
       pasted ∙ stored ∙ ap (sets room a) kept ∙ stores_part room text a k fits ∙ stores_from room text i a place,
     )
@@ -72,8 +70,8 @@ prints_then room a mid b i q p =
     let both : length (a ++ b) ≡ length a + length b = length-append a b in (
       omega (arith, p.0),
       stores_from mid b (i + length a) q (omega (arith, p.0))
-      ∙ ap (λ (l : List ℕ). sets l (i + length a) b) p.1
-      ∙ stores_append room i a b,
+          ∙ ap (λ (l : List ℕ). sets l (i + length a) b) p.1
+          ∙ stores_append room i a b,
     )
 
 -- a form from its next byte on comes to the same place and the same room, before that byte is printed and behind

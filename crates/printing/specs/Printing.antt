@@ -1,7 +1,8 @@
 -- What the contracts of the printers cite: the room after a text was printed into it.
 -- Assumes nothing.
-use Rattle.std.specs.Prelude.{ℕ, zero, suc, ◌+◌, ◌/◌, min, ◌≡◌, cond, List, [], ◌∷◌, ◌++◌, ltb, eqb, length, drop, Option, Some, None}
+use Rattle.std.specs.Prelude.{ℕ, ◌+◌, min, ◌≡◌, cond, List, [], ◌∷◌, ◌++◌, eqb, length, drop, Option, Some, None}
 use Rattle.std.proofs.lemmas.List.Edits.{sets}
+use Rattle.std.specs.Fmt.{decimal}
 use Rattle.io.specs.Digits.{last_digits}
 
 -- `text` printed into `room` from the place `at` on leaves `after`, and r is the place behind it: each byte is stored at its place, and one
@@ -12,15 +13,6 @@ Prints room at text after r = (r ≡ min (at + length text) (length room)) × (a
 -- a set in text: 16 hex digits
 unfoldable pub hex_text : ℕ → List ℕ
 hex_text set = last_digits 16 16 set
-
--- how many decimal digits n takes, if that is no more than `most` + 1
-unfoldable pub decimal_size : ℕ → ℕ → ℕ
-decimal_size zero n = 1
-decimal_size (suc most) n = cond (ltb n 10) 1 (decimal_size most (n / 10) + 1)
-
--- a number of 64 bits in text: its decimal digits
-unfoldable pub decimal_text : ℕ → List ℕ
-decimal_text n = last_digits 10 (decimal_size 20 n) n
 
 -- the number that the byte b of a form stands for, where `numbers` are left: one for a mark, `#` (35) or `%` (37), while there are some
 unfoldable pub spent : ℕ → List ℕ → Option ℕ
@@ -33,9 +25,9 @@ left_of None numbers = numbers
 left_of (Some n) numbers = drop 1 numbers
 
 -- the text of the byte b of a form: itself where it stands for no number, else the number n, in hex for `%`
-unfoldable pub part_text : Option ℕ → ℕ → List ℕ
+abbrev pub part_text : Option ℕ → ℕ → List ℕ
 part_text None b = b ∷ []
-part_text (Some n) b = cond (eqb b 37) (hex_text n) (decimal_text n)
+part_text (Some n) b = cond (eqb b 37) (hex_text n) (decimal n)
 
 -- a form in text
 unfoldable pub form_text : List ℕ → List ℕ → List ℕ

@@ -3,9 +3,10 @@
 #![tactic(auto)]
 
 ghost use Rattle.std.specs.Prelude.{◌≡◌, ◌+◌, ◌*◌, ◌≤◌, length, is_some, cond};
+ghost use Rattle.std.specs.Fmt.{decimal};
 ghost use Rattle.std.specs.Slice.Iter.{iter_rest};
 ghost use Rattle.printing.specs.InRoom.{InRoom};
-ghost use Rattle.printing.specs.Printing.{Prints, decimal_text, hex_text, spent, left_of, part_text, form_text};
+ghost use Rattle.printing.specs.Printing.{Prints, hex_text, spent, left_of, part_text, form_text};
 
 use std::slice::Iter;
 
@@ -23,11 +24,10 @@ fn put(out: &mut [u8], at: usize, text: &[u8]) -> usize
 // Prints a number in decimal digits.
 fn put_number(out: &mut [u8], at: usize, n: usize) -> usize
     ensures in_room { InRoom out.new (at + 20) result }
-    ensures rule { Prints out.old at (decimal_text n) out.new result }
+    ensures rule { Prints out.old at (decimal n) out.new result }
 {
-    let mut digits = [0u8; 20];
-    let count = io::decimal(n as u64, &mut digits);
-    put(out, at, &digits[..count])
+    let mut buffer = itoa::Buffer::new();
+    put(out, at, buffer.format(n).as_bytes())
 }
 
 // Prints a set in 16 hex digits.
@@ -53,7 +53,6 @@ fn spend(b: u8, left: &mut Iter<usize>) -> Option<usize>
 }
 
 // Prints a byte of a form, or the number that it stands for: in hex digits for `%`, else in decimal ones.
-#[tactic(auto, unfolding(crate::specs::Printing::part_text))]
 fn put_part(out: &mut [u8], at: usize, b: u8, number: Option<usize>) -> usize
     ensures in_room { InRoom out.new (at + cond (is_some number) 20 1) result }
     ensures rule { Prints out.old at (part_text number b) out.new result }

@@ -6,7 +6,7 @@ use Rattle.printing.proofs.put.Goals as goal
 pub returns-clause-rule : goal.returns-clause-rule
 returns-clause-rule c =
     prints_fitting c.args.out.now c.args.text.now c.copy_from_slice.new.self c.args.at c.min-at.result c.min-fits.result _
-        c.min-at.ensures
-        c.min-fits.ensures
-        (omega arith)
-        c.copy_from_slice.ensures.after
+    c.min-at.ensures
+    c.min-fits.ensures
+    (omega arith)
+    c.copy_from_slice.ensures.after

@@ -2,7 +2,6 @@
 -- and 19 more for each number; what is left of the form, printed there, leaves the room that the whole form leaves.
 -- Assumes nothing.
 use Prim.Native.Nat.{◌+◌, ◌*◌, ◌≤◌}
-use mathlib.Core.Path.{◌≡◌}
 use lib.ListN.{length, drop}
 use Rattle.std.specs.Slice.Iter.{iter_rest}
 use Rattle.printing.specs.Printing.{form_text}

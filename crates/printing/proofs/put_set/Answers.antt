@@ -1,18 +1,18 @@
--- `printing::put_set` meets its contract: a set has at most 16 digits. Assumes nothing.
-use borrow.Author.Rules.{rules}
-use Rattle.printing.proofs.Digits.{hex_room, hex_shown}
+-- `printing::put_set` meets its contract: a set has 16 digits. Assumes nothing.
+use Prim.Native.Nat.{ℕ}
+use mathlib.Core.Path.{◌≡◌, ◌∙◌, ap, subst}
+use mathlib.Core.List.{List}
+use native.Mathlib.Omega.{arith}
+use Rattle.io.specs.Digits.{last_digits}
+use Rattle.printing.specs.Printing.{Prints, hex_text}
 use Rattle.printing.proofs.put_set.Goals as goal
 
-pub returns : goal.returns
-returns c =
+hex_text_is : (set k : ℕ) (t : List ℕ) → k ≡ 16 → t ≡ last_digits 16 k set → t ≡ hex_text set
+unfolding hex_text
+hex_text_is set k t e is = is ∙ ap (λ (j : ℕ). last_digits 16 j set) e
+
+pub returns-clause-rule : goal.returns-clause-rule
+returns-clause-rule c =
     let hex = c.hex-count in
     let put = c.put in
-    record {
-      in_room = search (rules, hex_room);
-      rule =
-          hex_shown c.args.set hex.result c.args.at put.result c.args.out.now _ put.new.out
-          c.ranges.set.fits
-          hex.ensures.len
-          hex.ensures.digits
-          put.ensures.rule;
-    }
+    subst (λ (t : List ℕ). Prints c.args.out.now c.args.at t put.new.out put.result) (hex_text_is c.args.set hex.result _ (omega arith) hex.ensures.digits) put.ensures.rule
