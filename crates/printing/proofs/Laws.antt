@@ -64,7 +64,8 @@ prints_fitting room text part i a k e place fits is kept =
 abbrev pub Same : List ℕ → ℕ → List ℕ → List ℕ → ℕ → List ℕ → Type 0
 Same l i s m j t = (min (i + length s) (length l) ≡ min (j + length t) (length m)) × (sets l i s ≡ sets m j t)
 
-pub prints_then : (room a mid b : List ℕ) (i q : ℕ) → Prints room i a mid q → Same mid q b room i (a ++ b)
+-- what is printed behind a text, as good as both printed where the text begins
+prints_then : (room a mid b : List ℕ) (i q : ℕ) → Prints room i a mid q → Same mid q b room i (a ++ b)
 prints_then room a mid b i q p =
     let size : length mid ≡ length room = ap length p.1 ∙ length-sets room i a in
     let both : length (a ++ b) ≡ length a + length b = length-append a b in (
@@ -73,6 +74,11 @@ prints_then room a mid b i q p =
           ∙ ap (λ (l : List ℕ). sets l (i + length a) b) p.1
           ∙ stores_append room i a b,
     )
+
+-- two texts, one printed behind the other
+pub prints_both : (room mid after a b : List ℕ) (at q r : ℕ) → Prints room at a mid q → Prints mid q b after r → Prints room at (a ++ b) after r
+prints_both room mid after a b at q r first second =
+    let joined = prints_then room a mid b at q first in (second.0 ∙ joined.0, second.1 ∙ joined.1)
 
 -- a form from its next byte on comes to the same place and the same room, before that byte is printed and behind
 pub form_moves : (out after form numbers left room t : List ℕ) (number : Option ℕ) (i r j k : ℕ) → k < length form → number ≡ spent (get_or form k 0) numbers → left ≡ left_of number numbers
