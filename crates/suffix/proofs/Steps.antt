@@ -6,7 +6,7 @@ use mathlib.Core.Bool.{Bool, true, false, cond}
 use Rattle.std.specs.Prelude.{Option}
 use native.Mathlib.Omega.{arith}
 use lib.Dec.{ltb, eqb}
-use borrow.Author.Tests.{lt-ltb, le-ltb, eq-eqb, ne_eqb, eqb-false}
+use borrow.Author.Tests.{lt-ltb, le-ltb, eqb-false}
 use Rattle.words.specs.Word.{Word}
 use Rattle.words.specs.Order.{below}
 use Rattle.suffix.specs.Rounds.{round, round_on, run, out, stops, start, rounds}
@@ -38,24 +38,6 @@ module _ (g : Bool) (x : Word) (known : Option ℕ) where
       let on : stops known (round g x s).period ≡ false = ap (λ (y : State). stops known y.period) e ∙ z in
       let goes : run (suc (N - (k + 1))) g x known s k ≡ run (N - (k + 1)) g x known (round g x s) (k + 1) = rw (lt-ltb _ _ h, on) in
       ap (λ (y : State). run (N - (k + 1)) g x known y (k + 1)) (sym e) ∙ sym goes ∙ ap (λ (y : ℕ). run y g x known s k) (sym fuel) ∙ q
-
--- the ways through a round; t is the answer of the test whether a is below b
-module _ (g : Bool) (a b : ℕ) (s : State) {t : Bool} where
-  pub round_lower : t ≡ below g a b → t ≡ true → record { left = s.left; right = s.right + (s.offset + 1); offset = 0; period = s.right + (s.offset + 1) - s.left } ≡ round_on g a b s
-  unfolding round_on
-  round_lower e q = rw (sym e ∙ q)
-
-  pub round_wrap : t ≡ below g a b → t ≡ false → a ≡ b → s.offset + 1 ≡ s.period → record { left = s.left; right = s.right + (s.offset + 1); offset = 0; period = s.period } ≡ round_on g a b s
-  unfolding round_on
-  round_wrap e q same h = rw (sym e ∙ q, eq-eqb _ _ same, eq-eqb _ _ h)
-
-  pub round_same : t ≡ below g a b → t ≡ false → a ≡ b → (s.offset + 1 ≡ s.period → ⊥) → record { left = s.left; right = s.right; offset = s.offset + 1; period = s.period } ≡ round_on g a b s
-  unfolding round_on
-  round_same e q same h = rw (sym e ∙ q, eq-eqb _ _ same, ne_eqb _ _ h)
-
-  pub round_higher : t ≡ below g a b → t ≡ false → (a ≡ b → ⊥) → record { left = s.right; right = s.right + 1; offset = 0; period = 1 } ≡ round_on g a b s
-  unfolding round_on
-  round_higher e q other = rw (sym e ∙ q, ne_eqb _ _ other)
 
 -- a number that rises with every round and stays below twice the word's size
 abbrev pub potential : State → ℕ

@@ -6,29 +6,16 @@ use Rattle.words.specs.Word.{Word, front, back, suffix}
 use Rattle.words.specs.Period.{Period, SmallestPeriod}
 use Rattle.words.specs.Order.{MaximalSuffix}
 use Rattle.limits.specs.Bounds.{needle_bound}
-use Rattle.limits.specs.Refusals.{number_of}
 use Rattle.limits.specs.Said.{Said, refused, given}
 use Rattle.suffix.specs.Rounds.{rounds}
 use Rattle.suffix.specs.declared.State.{State}
 use Rattle.suffix.specs.declared.Suffix.{Suffix}
 use Rattle.suffix.specs.declared.ReverseSuffix.{ReverseSuffix}
-use Rattle.suffix.specs.declared.SuffixAnswer.{SuffixAnswer}
-use Rattle.suffix.specs.declared.ReverseAnswer.{ReverseAnswer}
 
 -- what every state of the loop satisfies
 pub record Sound (s : State) : Type 0 where
   pub fits : s.left + s.period ≤ s.right
   pub short : s.offset < s.period
-
--- what an answer says: its refusal's number, or the start and the period, and the rounds
-abbrev pub suffix_said : SuffixAnswer → Said Suffix
-suffix_said (SuffixAnswer.Found s) = given s
-suffix_said (SuffixAnswer.Refused why) = refused (number_of why)
-
--- the same of the reversed word: the start only, and the rounds
-abbrev pub reverse_said : ReverseAnswer → Said ReverseSuffix
-reverse_said (ReverseAnswer.Found s) = given s
-reverse_said (ReverseAnswer.Refused why) = refused (number_of why)
 
 -- "The two maximal suffix calls make only check 2, on their word"; else the rounds of the source decide
 unfoldable pub maximal_rule : Bool → List ℕ → Said Suffix

@@ -1,9 +1,12 @@
 #![tactic(auto)]
 
-ghost use Rattle.std.specs.Prelude.{◌≡◌, ◌+◌, ◌<◌, ◌^◌, length, get_or};
+ghost use Rattle.std.specs.Prelude.{◌≡◌, ◌+◌, ◌<◌, ◌^◌, cond, ltb, length};
+ghost use Rattle.words.specs.Word.{front, back};
 ghost use Rattle.words.specs.Order.{below};
-ghost use Rattle.suffix.specs.Rounds.{round_on};
-ghost use Rattle.suffix.specs.Answer.{Sound, suffix_said, reverse_said, maximal_rule, MaximalMeaning, reverse_rule, ReverseMeaning};
+ghost use Rattle.limits.specs.Bounds.{needle_bound};
+ghost use Rattle.limits.specs.Said.{refused, given, said};
+ghost use Rattle.suffix.specs.Rounds.{round_on, rounds};
+ghost use Rattle.suffix.specs.Answer.{Sound, maximal_rule, MaximalMeaning, reverse_rule, ReverseMeaning};
 
 use limits::Refusal;
 
@@ -15,23 +18,11 @@ pub struct Suffix {
     pub rounds: usize,
 }
 
-#[derive(Clone, Copy)]
-pub enum SuffixAnswer {
-    Found(Suffix),
-    Refused(Refusal),
-}
-
 // The maximal suffix of a reversed word: the start, counted from the back, and the rounds.
 #[derive(Clone, Copy)]
 pub struct ReverseSuffix {
     pub start: usize,
     pub rounds: usize,
-}
-
-#[derive(Clone, Copy)]
-pub enum ReverseAnswer {
-    Found(ReverseSuffix),
-    Refused(Refusal),
 }
 
 // Where the search for a maximal suffix stands; the names are the source's.
@@ -43,12 +34,16 @@ struct State {
     period: usize, // p in the paper
 }
 
-// Reads a letter: the one place of this crate that does.
-fn letter(arr: &[u8], i: usize) -> u8
+// The letter of that index in the word, counted from the front or from the back: the one place of this crate that reads one.
+fn letter<const BACKWARD: bool>(arr: &[u8], i: usize) -> u8
     requires { i < length arr.now }
-    ensures { result ≡ get_or arr.now i 0 }
+    ensures { result ≡ (cond BACKWARD (back arr.now) (front arr.now)).letter i }
 {
-    arr[i]
+    if BACKWARD {
+        arr[arr.len() - (1 + i)]
+    } else {
+        arr[i]
+    }
 }
 
 // Whether a is below b, in the byte order or in the reversed one.
@@ -58,7 +53,8 @@ fn is_below(a: u8, b: u8, order_greater: bool) -> bool
     if order_greater { b < a } else { a < b }
 }
 
-// One round, on the new letter a and the letter b that is expected there. Both loops below make it, so that their proofs are one.
+// One round, on the new letter a and the letter b that is expected there.
+#[tactic(auto, unfolding(crate::specs::Rounds::round_on))]
 fn round_on(s: State, a: u8, b: u8, order_greater: bool) -> State
     requires { Sound s × (s.right + s.offset < 2 ^ 63) }
     ensures { result ≡ round_on order_greater a b s }
@@ -98,14 +94,17 @@ fn round_on(s: State, a: u8, b: u8, order_greater: bool) -> State
     }
 }
 
-// The maximal suffix of `arr`.
-pub fn maximal_suffix(arr: &[u8], order_greater: bool) -> SuffixAnswer
-    ensures rule { suffix_said result ≡ maximal_rule order_greater arr.now }
-    ensures meaning { MaximalMeaning order_greater arr.now (suffix_said result) }
+// One pass: the rounds over the word, read from the front or from the back, up to the first that leaves the period `known`.
+fn pass<const BACKWARD: bool>(
+    arr: &[u8],
+    known: Option<usize>,
+    order_greater: bool,
+) -> Result<Suffix, Refusal>
+    ensures { said result ≡ cond (ltb needle_bound (length arr.now)) (refused 2) (given (rounds order_greater (cond BACKWARD (back arr.now) (front arr.now)) known)) }
 {
     let n = arr.len();
     if limits::needle_too_long(n) {
-        return SuffixAnswer::Refused(Refusal::NeedleTooLong);
+        return Err(Refusal::NeedleTooLong);
     }
     let mut s = State {
         left: 0,
@@ -117,43 +116,41 @@ pub fn maximal_suffix(arr: &[u8], order_greater: bool) -> SuffixAnswer
     while s.right + s.offset < n {
         let i = s.right + s.offset;
         let j = s.left + s.offset;
-        s = round_on(s, letter(arr, i), letter(arr, j), order_greater);
+        let new = letter::<BACKWARD>(arr, i);
+        let expected = letter::<BACKWARD>(arr, j);
+        s = round_on(s, new, expected, order_greater);
         rounds += 1;
+        if Some(s.period) == known {
+            break;
+        }
     }
-    SuffixAnswer::Found(Suffix {
+    Ok(Suffix {
         start: s.left,
         period: s.period,
         rounds,
     })
 }
 
-// The maximal suffix of the reverse of `arr`; it returns as soon as the period `known_period` is reached.
-pub fn reverse_maximal_suffix(arr: &[u8], known_period: usize, order_greater: bool) -> ReverseAnswer
-    ensures rule { reverse_said result ≡ reverse_rule order_greater known_period arr.now }
-    ensures meaning { ReverseMeaning order_greater known_period arr.now (reverse_said result) }
+// The maximal suffix of `arr`.
+pub fn maximal_suffix(arr: &[u8], order_greater: bool) -> Result<Suffix, Refusal>
+    ensures rule { said result ≡ maximal_rule order_greater arr.now }
+    ensures meaning { MaximalMeaning order_greater arr.now (said result) }
 {
-    let n = arr.len();
-    if limits::needle_too_long(n) {
-        return ReverseAnswer::Refused(Refusal::NeedleTooLong);
-    }
-    let mut s = State {
-        left: 0,
-        right: 1,
-        offset: 0,
-        period: 1,
-    };
-    let mut rounds: usize = 0;
-    while s.right + s.offset < n {
-        let i = n - (1 + (s.right + s.offset));
-        let j = n - (1 + (s.left + s.offset));
-        s = round_on(s, letter(arr, i), letter(arr, j), order_greater);
-        rounds += 1;
-        if s.period == known_period {
-            break;
-        }
-    }
-    ReverseAnswer::Found(ReverseSuffix {
-        start: s.left,
-        rounds,
+    pass::<false>(arr, None, order_greater)
+}
+
+// The maximal suffix of the reverse of `arr`; it returns as soon as the period `known_period` is reached.
+pub fn reverse_maximal_suffix(
+    arr: &[u8],
+    known_period: usize,
+    order_greater: bool,
+) -> Result<ReverseSuffix, Refusal>
+    ensures rule { said result ≡ reverse_rule order_greater known_period arr.now }
+    ensures meaning { ReverseMeaning order_greater known_period arr.now (said result) }
+{
+    let s = pass::<true>(arr, Some(known_period), order_greater)?;
+    Ok(ReverseSuffix {
+        start: s.start,
+        rounds: s.rounds,
     })
 }
