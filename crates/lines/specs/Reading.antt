@@ -22,6 +22,6 @@ abbrev pub is_script : List ℕ → Bool
 is_script s = ltb 0 (length s) && list_all is_letter s
 
 -- the cursor behind the byte b, where b stands in s at the cursor; else none
-abbrev pub skipped : List ℕ → Option ℕ → ℕ → Option ℕ
+unfoldable pub skipped : List ℕ → Option ℕ → ℕ → Option ℕ
 skipped s (Some k) b = cond (ltb k (length s) && eqb (get_or s k 0) b) (Some (k + 1)) None
 skipped s None b = None

@@ -36,6 +36,7 @@ pub fn until(s: &[u8], b: u8) -> usize
 }
 
 // Reads the byte `b`.
+#[tactic(auto, unfolding(crate::specs::Reading::skipped))]
 pub fn skip(s: &[u8], c: Option<usize>, b: u8) -> Option<usize>
     ensures rule { result ≡ skipped s.now c b }
 {
