@@ -2,11 +2,11 @@
 -- for one that is refused, a record that fits nothing.
 -- Assumes nothing.
 use Prim.Native.Nat.{ℕ, ◌+◌, ◌-◌, ◌*◌, ◌<◌, ◌≤◌, min, max}
-use mathlib.Core.Path.{◌≡◌, refl, ap}
+use mathlib.Core.Path.{◌≡◌, refl}
 use mathlib.Core.Bool.{Bool, true, false, cond}
 use mathlib.Core.Logic.{inl, inr}
 use mathlib.Core.List.{List}
-use Rattle.std.specs.Prelude.{Some}
+use Rattle.std.specs.Prelude.{Some, Ok, Err}
 use native.Mathlib.Omega.{arith}
 use native.Mathlib.Decide.{dec_lt}
 use lib.Dec.{ltb, eqb}
@@ -19,18 +19,15 @@ use Rattle.words.specs.Critical.{LaterStart}
 use Rattle.words.proofs.Decided.{smallest_period_is}
 use Rattle.words.proofs.Mirror.{period_mirror}
 use Rattle.words.proofs.Critical.{later_start, split_below, smallest_mirror}
-use Rattle.limits.specs.Checks.{lengths}
-use Rattle.limits.specs.Said.{Said, refused, given, LosesNothing}
-use Rattle.limits.proofs.Said.{by_way_back, refusal_of, refusal_again}
-use Rattle.limits.specs.declared.Check.{Check}
+use Rattle.limits.specs.Checks.{Check, lengths}
+use Rattle.limits.specs.Said.{given}
 use Rattle.limits.specs.declared.Refusal.{Refusal}
 use Rattle.suffix.specs.Rounds.{rounds}
 use Rattle.suffix.proofs.Maximal.{known_found}
 use Rattle.record.specs.Fits.{fits}
 use Rattle.record.specs.declared.Kind.TheVariants.{TwoWay}
 use Rattle.record.specs.declared.Mode.{Mode}
-use Rattle.prepare.specs.declared.Preparation.{Preparation}
-use Rattle.prepare.specs.Prepare.{preparation_said, PartsTold, chosen, agreed, forward_rounds, prepare_short, prepare_long, five_steps, empty_walk, refuse, or_parts, prepare_rule, NoState}
+use Rattle.prepare.specs.Prepare.{PartsTold, chosen, agreed, forward_rounds, prepare_short, prepare_long, five_steps, empty_walk, refuse, or_parts, prepare_rule, NoState}
 use Rattle.record.specs.Kinds.{forward_cursor, backward_cursor}
 use Rattle.prepare.proofs.Chosen.{chosen_split, chosen_fits, chosen_short, chosen_long, forward_few, reverse_few}
 use Rattle.record.proofs.Fitting.{StateFits, decides_fits, two_way_splits}
@@ -206,19 +203,6 @@ unfolding prepare_rule
 refused_fits_nothing needle n mode = go (lengths n (length needle)) (eqb (length needle) 0)
   where
     go : (c : Check) (b : Bool) → NoState (or_parts c (cond b (empty_walk n mode) (five_steps needle n mode)))
-    go Check.Pass true number e = let z : ◌≡◌ {A = ℕ} 0 1 = cc in absurd (omega arith)
-    go Check.Pass false number e = let q = prepared_ready needle n mode in let z : ◌≡◌ {A = ℕ} 0 1 = cc in absurd (omega arith)
-    go (Check.Refuse why) b number e = refuse_fits_nothing why
-
--- ---- what preparing answers says loses nothing
-
-pub preparation_loses_nothing : LosesNothing preparation_said
-preparation_loses_nothing = by_way_back preparation_said back_to again
-  where
-    back_to : Said (Unit {0}) → Preparation
-    back_to (given x) = Preparation.Ready
-    back_to (refused number) = Preparation.Refused (refusal_of number)
-
-    again : (a : Preparation) → back_to (preparation_said a) ≡ a
-    again Preparation.Ready = refl
-    again (Preparation.Refused why) = ap Preparation.Refused (refusal_again why)
+    go (Ok passed) true number e = cc
+    go (Ok passed) false number e = let q = prepared_ready needle n mode in cc
+    go (Err why) b number e = refuse_fits_nothing why

@@ -1,11 +1,11 @@
 -- What each return of the functions that prepare has to show.
 -- Assumes nothing.
 use Prim.Native.Nat.{ℕ, ◌+◌, ◌-◌, ◌*◌, ◌<◌, ◌≤◌, min, max}
-use mathlib.Core.Path.{◌≡◌, sym, ◌∙◌, ap, subst}
+use mathlib.Core.Path.{◌≡◌, refl, sym, ◌∙◌, ap, subst}
 use mathlib.Core.Bool.{Bool, true, false}
 use mathlib.Core.List.{List}
-use Rattle.std.specs.Prelude.{None, Some}
-use native.Mathlib.Nat.{sub-zero, add-sub_cancel_left}
+use Rattle.std.specs.Prelude.{Result, None, Some, Ok, Err}
+use native.Mathlib.Nat.{add-sub_cancel_left}
 use native.Mathlib.Omega.{arith}
 use mir.Syntax.{w64}
 use mir.Val.{Fits}
@@ -17,21 +17,18 @@ use Rattle.words.proofs.Mirror.{period_mirror}
 use Rattle.words.proofs.Critical.{part_fits}
 use Rattle.limits.specs.Bounds.{needle_bound}
 use Rattle.limits.specs.Checks.{lengths}
-use Rattle.limits.specs.Said.{given}
-use Rattle.limits.specs.declared.Check.{Check}
+use Rattle.limits.specs.Said.{given, said}
 use Rattle.limits.specs.declared.Refusal.{Refusal}
 use Rattle.limits.proofs.Room.{needle_room}
 use Rattle.limits.proofs.Checks.{lengths_pass}
 use Rattle.byteset.specs.Fingerprint.{fingerprint}
 use Rattle.compare.specs.Agree.{agree}
 use Rattle.suffix.specs.Rounds.{rounds}
-use Rattle.suffix.specs.Answer.{suffix_said, reverse_said, maximal_rule, reverse_rule}
+use Rattle.suffix.specs.Answer.{maximal_rule, reverse_rule}
 use Rattle.suffix.specs.declared.Suffix.{Suffix}
 use Rattle.suffix.specs.declared.ReverseSuffix.{ReverseSuffix}
-use Rattle.suffix.specs.declared.SuffixAnswer.{SuffixAnswer}
-use Rattle.suffix.specs.declared.ReverseAnswer.{ReverseAnswer}
 use Rattle.suffix.proofs.Maximal.{plain_found, known_found}
-use Rattle.record.specs.declared.Memory.TheVariants.{Long, Short}
+use Rattle.record.specs.declared.Memory.TheVariants.{Short}
 use Rattle.record.specs.declared.Kind.TheVariants.{TwoWay}
 use Rattle.record.specs.declared.Mode.{Mode}
 use Rattle.prepare.specs.Prepare.{PartsTold, to_reverse, chosen, choice, forward_rounds, reverse_rounds, agreed, prepare_short, prepare_long, ready, five_steps, empty_walk, refuse, prepare_rule, NoState}
@@ -45,28 +42,16 @@ module _ (g : Bool) (needle : List ℕ) (small : length needle ≤ needle_bound)
   unfolding maximal_rule
   maximal_is = rw (le-ltb _ _ small)
 
-  pub maximal_found : {r : SuffixAnswer} {s : Suffix} → suffix_said r ≡ maximal_rule g needle → r ≡ SuffixAnswer.Found s → s ≡ rounds g (front needle) None
-  maximal_found e f = let q = sym (ap suffix_said f) ∙ e ∙ maximal_is in cc
-
-  pub maximal_not_refused : {r : SuffixAnswer} {s t : Suffix} {why : Refusal} → suffix_said r ≡ maximal_rule g needle → r ≡ SuffixAnswer.Refused why → s ≡ t
-  maximal_not_refused e f =
-      let q = sym (ap suffix_said f) ∙ e ∙ maximal_is in
-      let z : ◌≡◌ {A = ℕ} 0 1 = cc in
-      absurd (omega arith)
+  pub maximal_found : {r : Result Suffix Refusal} {s : Suffix} → said r ≡ maximal_rule g needle → r ≡ Ok s → s ≡ rounds g (front needle) None
+  maximal_found e f = let q = sym (ap said f) ∙ e ∙ maximal_is in cc
 
   module _ (known : ℕ) where
     reverse_is : reverse_rule g known needle ≡ given (to_reverse (rounds g (back needle) (Some known)))
     unfolding reverse_rule
     reverse_is = rw (le-ltb _ _ small)
 
-    pub reverse_found : {r : ReverseAnswer} {s : ReverseSuffix} → reverse_said r ≡ reverse_rule g known needle → r ≡ ReverseAnswer.Found s → s ≡ to_reverse (rounds g (back needle) (Some known))
-    reverse_found e f = let q = sym (ap reverse_said f) ∙ e ∙ reverse_is in cc
-
-    pub reverse_not_refused : {r : ReverseAnswer} {s t : ReverseSuffix} {why : Refusal} → reverse_said r ≡ reverse_rule g known needle → r ≡ ReverseAnswer.Refused why → s ≡ t
-    reverse_not_refused e f =
-        let q = sym (ap reverse_said f) ∙ e ∙ reverse_is in
-        let z : ◌≡◌ {A = ℕ} 0 1 = cc in
-        absurd (omega arith)
+    pub reverse_found : {r : Result ReverseSuffix Refusal} {s : ReverseSuffix} → said r ≡ reverse_rule g known needle → r ≡ Ok s → s ≡ to_reverse (rounds g (back needle) (Some known))
+    reverse_found e f = let q = sym (ap said f) ∙ e ∙ reverse_is in cc
 
 -- ---- step 1
 
@@ -125,37 +110,17 @@ module _ (needle : List ℕ) (p : ℕ) {lower higher : ReverseSuffix} (period : 
       (Short 0 (length needle))
       TwoWay
       (before + (lower.rounds + higher.rounds))
-      → later ≡ max lower.start higher.start → set ≡ fingerprint (take (p - 0) (drop 0 needle))
+      → later ≡ max lower.start higher.start → set ≡ fingerprint (take p needle)
       → r ≡ prepare_short needle n mode c p before
   unfolding prepare_short reverse_rounds
-  short_is n mode c before e l f = e ∙ rw (l, f, sub-zero, a, b)
-
--- ---- step 4
-
-pub long_is : (needle : List ℕ) (n : ℕ) (mode : Mode) (c before : ℕ) {longer set : ℕ} {r : PartsTold}
-    → r ≡ ready
-    (record {
-      needle_len = length needle;
-      haystack_len = n;
-      mode = mode;
-      crit_pos = c;
-      crit_pos_back = c;
-      period = longer + 1;
-      byteset = set;
-    })
-    Long
-    TwoWay
-    before
-    → longer ≡ max c (length needle - c) → set ≡ fingerprint needle → r ≡ prepare_long needle n mode c before
-unfolding prepare_long
-long_is needle n mode c before e l f = e ∙ rw (l, f)
+  short_is n mode c before e l f = e ∙ rw (l, f, a, b)
 
 -- ---- the steps together
 
 module _ (needle : List ℕ) {split : Suffix} {k : ℕ} (pos : 0 < length needle) (e : split ≡ choice needle)
-    (f : k ≡ agree (take (split.start - 0) (drop 0 needle)) (take (split.period + split.start - split.period) (drop split.period needle))) where
+    (f : k ≡ agree (take split.start needle) (take (split.period + split.start - split.period) (drop split.period needle))) where
   k_is : k ≡ agreed needle (chosen needle).start (chosen needle).period
-  k_is = rw (f, sub-zero, add-sub_cancel_left, e)
+  k_is = rw (f, add-sub_cancel_left, e)
 
   -- no difference: the period of the part from the split on is the needle's
   pub whole_period : split.start ≤ k → Period (front needle) split.period
@@ -180,27 +145,22 @@ module _ (needle : List ℕ) {split : Suffix} {k : ℕ} (pos : 0 < length needle
 
 -- ---- the whole
 
-module _ (needle : List ℕ) (n : ℕ) {c : Check} (e : c ≡ lengths n (length needle)) where
-  pub prepare_refuses : (mode : Mode) {why : Refusal} {r : PartsTold} → r ≡ refuse why → c ≡ Check.Refuse why → r ≡ prepare_rule needle n mode
+module _ (needle : List ℕ) (n : ℕ) where
+  pub prepare_refuses : (mode : Mode) {why : Refusal} {r : PartsTold} → r ≡ refuse why → Err why ≡ lengths n (length needle) → r ≡ prepare_rule needle n mode
   unfolding prepare_rule
-  prepare_refuses mode q h = q ∙ rw (← e, h)
+  prepare_refuses mode q h = q ∙ rw (← h)
 
-  module _ (passed : c ≡ Check.Pass) where
+  module _ (passed : Ok tt ≡ lengths n (length needle)) where
     pub prepare_empty : (mode : Mode) {r : PartsTold} → r ≡ empty_walk n mode → length needle ≡ 0 → r ≡ prepare_rule needle n mode
     unfolding prepare_rule
-    prepare_empty mode q z = q ∙ rw (← e, passed, eq-eqb _ _ z)
+    prepare_empty mode q z = q ∙ rw (← passed, eq-eqb _ _ z)
 
-    -- what is not empty, and within the bound
-    module _ (some_letters : length needle ≡ 0 → ⊥) where
-      pub prepare_steps : (mode : Mode) {r : PartsTold} → r ≡ five_steps needle n mode → r ≡ prepare_rule needle n mode
-      unfolding prepare_rule
-      prepare_steps mode q = q ∙ rw (← e, passed, ne_eqb _ _ some_letters)
-
-      pub passed_some : 0 < length needle
-      passed_some = omega arith
+    pub prepare_steps : (mode : Mode) {r : PartsTold} → r ≡ five_steps needle n mode → (length needle ≡ 0 → ⊥) → r ≡ prepare_rule needle n mode
+    unfolding prepare_rule
+    prepare_steps mode q z = q ∙ rw (← passed, ne_eqb _ _ z)
 
     pub passed_small : length needle ≤ needle_bound
-    passed_small = (lengths_pass n (length needle) e passed).needle_in
+    passed_small = (lengths_pass n (length needle) passed refl).needle_in
 
 -- what each return of preparing has to show, from the rule's answer alone
 pub prepare_settled : (needle : List ℕ) (n : ℕ) (mode : Mode) {r : PartsTold} → r ≡ prepare_rule needle n mode → (r ≡ prepare_rule needle n mode) × NoState r

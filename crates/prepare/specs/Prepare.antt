@@ -1,12 +1,11 @@
 -- Preparing: 01's "Preparing", step by step, with the preparing count of "Whole searches and counts".
 -- Assumes nothing.
 use Rattle.std.specs.Prelude.{ℕ, ◌+◌, ◌-◌, min, max, ◌≡◌, true, false, cond, List, ltb, eqb, length, take, drop}
-use Rattle.std.specs.Prelude.{None, Some}
+use Rattle.std.specs.Prelude.{None, Some, Ok, Err}
 use Rattle.words.specs.Word.{front, back}
-use Rattle.limits.specs.Checks.{lengths}
+use Rattle.limits.specs.Checks.{Check, lengths}
 use Rattle.limits.specs.Refusals.{number_of}
-use Rattle.limits.specs.Said.{Said, refused, given}
-use Rattle.limits.specs.declared.Check.{Check}
+use Rattle.limits.specs.Said.{Said, refused, given, said}
 use Rattle.limits.specs.declared.Refusal.{Refusal}
 use Rattle.byteset.specs.Fingerprint.{fingerprint}
 use Rattle.compare.specs.Agree.{agree}
@@ -23,8 +22,6 @@ use Rattle.record.specs.declared.Mode.TheVariants.{NonOverlapping}
 use Rattle.record.specs.declared.Fixed.{Fixed}
 use Rattle.record.specs.declared.Moving.{Moving}
 use Rattle.record.specs.declared.Counts.{Counts}
-use Rattle.prepare.specs.declared.Preparation.{Preparation}
-use Rattle.prepare.specs.declared.Preparation.TheVariants.{Ready, Refused}
 use Rattle.prepare.specs.declared.Parts.{Parts}
 
 -- 1. "Run both orders of `maximal_suffix`. Take the false order's pair if its start is strictly greater, else the true order's."
@@ -45,12 +42,7 @@ forward_rounds needle = (rounds false (front needle) None).rounds + (rounds true
 unfoldable pub reverse_rounds : List ℕ → ℕ → ℕ
 reverse_rounds needle p = (rounds false (back needle) (Some p)).rounds + (rounds true (back needle) (Some p)).rounds
 
--- what an answer says: its refusal's number, or that a state is given
-abbrev pub preparation_said : Preparation → Said (Unit {0})
-preparation_said Ready = given tt
-preparation_said (Refused why) = refused (number_of why)
-
--- that, the two parts of the record, and the counts
+-- what an answer says, its refusal's number or that a state is given; the two parts of the record, and the counts
 pub record PartsTold : Type 0 where
   pub answer : Said (Unit {0})
   pub fixed : Fixed
@@ -58,7 +50,7 @@ pub record PartsTold : Type 0 where
   pub counts : Counts
 
 abbrev pub parts_told : Parts → PartsTold
-parts_told r = record { answer = preparation_said r.answer; fixed = r.fixed; moving = r.moving; counts = r.counts }
+parts_told r = record { answer = said r.answer; fixed = r.fixed; moving = r.moving; counts = r.counts }
 
 -- the counts of a call that only prepares
 abbrev pub preparing : ℕ → Counts
@@ -147,8 +139,8 @@ refuse why =
     }
 
 abbrev pub or_parts : Check → PartsTold → PartsTold
-or_parts Check.Pass otherwise = otherwise
-or_parts (Check.Refuse why) otherwise = refuse why
+or_parts (Ok passed) otherwise = otherwise
+or_parts (Err why) otherwise = refuse why
 
 -- "Preparing takes the needle and the haystack's length (check 1 is made on that length)": checks 1 and 2. "The mode is chosen at preparing." (02 [3])
 unfoldable pub prepare_rule : List ℕ → ℕ → Mode → PartsTold

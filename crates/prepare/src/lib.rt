@@ -9,77 +9,120 @@ ghost use Rattle.limits.specs.Bounds.{needle_bound};
 ghost use Rattle.suffix.specs.Rounds.{rounds};
 ghost use Rattle.prepare.specs.Prepare.{choice, to_reverse, parts_told, prepare_short, prepare_long, refuse, ready, lengths_alone, empty_walk, five_steps, prepare_rule, NoState};
 
-use limits::{Check, Refusal};
+use limits::Refusal;
 use record::{Counts, Fixed, Kind, Memory, Mode, Moving};
-use suffix::{ReverseAnswer, ReverseSuffix, Suffix, SuffixAnswer};
-
-#[derive(Clone, Copy)]
-pub enum Preparation {
-    Ready,
-    Refused(Refusal),
-}
+use suffix::{ReverseSuffix, Suffix};
 
 // What preparing comes to: the two parts of a record, and the count. Where it refuses, they are no state.
 #[derive(Clone, Copy)]
 pub struct Parts {
-    pub answer: Preparation,
+    pub answer: Result<(), Refusal>,
     pub fixed: Fixed,
     pub moving: Moving,
     pub counts: Counts,
 }
 
-// The maximal suffix of a needle that is within the bound, so that nothing is refused.
-fn maximal(needle: &[u8], order_greater: bool) -> Suffix
-    requires { length needle.now ≤ needle_bound }
-    ensures { result ≡ rounds order_greater (front needle.now) None }
-{
-    match suffix::maximal_suffix(needle, order_greater) {
-        SuffixAnswer::Found(s) => s,
-        SuffixAnswer::Refused(_) => Suffix {
-            start: 0,
-            period: 1,
-            rounds: 0,
-        },
-    }
+// A needle that there is something to prepare for: it is not empty, and it is within the bound, so that no pass over it refuses.
+#[derive(Clone, Copy)]
+struct Needle<'a> {
+    bytes: &'a [u8],
+    ghost some: { 0 < length bytes.now },
+    ghost within: { length bytes.now ≤ needle_bound },
 }
 
-// The same from the back, with the needle's period known.
-fn reverse_maximal(needle: &[u8], period: usize, order_greater: bool) -> ReverseSuffix
-    requires { length needle.now ≤ needle_bound }
-    ensures { result ≡ to_reverse (rounds order_greater (back needle.now) (Some period)) }
-{
-    match suffix::reverse_maximal_suffix(needle, period, order_greater) {
-        ReverseAnswer::Found(s) => s,
-        ReverseAnswer::Refused(_) => ReverseSuffix {
-            start: 0,
-            rounds: 0,
-        },
+impl Needle<'_> {
+    // Its maximal suffix.
+    fn maximal(self, order_greater: bool) -> Suffix
+        ensures { result ≡ rounds order_greater (front self.entry.bytes.now) None }
+    {
+        suffix::maximal_suffix(self.bytes, order_greater).unwrap()
     }
-}
 
-// The later of the two starts, with its period; `rounds` counts both passes.
-// The period is one of the part from the start on, so it fits there, and as many bytes as stand before the start follow the period.
-fn choose(needle: &[u8]) -> Suffix
-    requires { (0 < length needle.now) × (length needle.now ≤ needle_bound) }
-    ensures choice { result ≡ choice needle.now }
-    ensures fits { result.period + result.start ≤ length needle.now }
-    ensures few { result.rounds ≤ 4 * length needle.now }
-{
-    let lower = maximal(needle, false);
-    let higher = maximal(needle, true);
-    let rounds = lower.rounds + higher.rounds;
-    if higher.start < lower.start {
-        Suffix {
-            start: lower.start,
-            period: lower.period,
-            rounds,
+    // The same from the back, with its period known.
+    fn reverse_maximal(self, period: usize, order_greater: bool) -> ReverseSuffix
+        ensures { result ≡ to_reverse (rounds order_greater (back self.entry.bytes.now) (Some period)) }
+    {
+        suffix::reverse_maximal_suffix(self.bytes, period, order_greater).unwrap()
+    }
+
+    // The later of the two starts, with its period; `rounds` counts both passes.
+    // The period is one of the part from the start on, so it fits there, and as many bytes as stand before the start follow the period.
+    fn choose(self) -> Suffix
+        ensures choice { result ≡ choice self.entry.bytes.now }
+        ensures fits { result.period + result.start ≤ length self.entry.bytes.now }
+        ensures few { result.rounds ≤ 4 * length self.entry.bytes.now }
+    {
+        let lower = self.maximal(false);
+        let higher = self.maximal(true);
+        let rounds = lower.rounds + higher.rounds;
+        if higher.start < lower.start {
+            Suffix { rounds, ..lower }
+        } else {
+            Suffix { rounds, ..higher }
         }
-    } else {
-        Suffix {
-            start: higher.start,
-            period: higher.period,
-            rounds,
+    }
+
+    // Step 3: p is a period of the needle, and the reverse passes stop where they find it. `before` is what was counted before them.
+    fn short(self, n: usize, mode: Mode, c: usize, p: usize, before: usize) -> Parts
+        requires { Period (front self.bytes.now) p × (before ≤ 5 * length self.bytes.now) }
+        ensures { parts_told result ≡ prepare_short self.entry.bytes.now n mode c p before }
+    {
+        let m = self.bytes.len();
+        let lower = self.reverse_maximal(p, false);
+        let higher = self.reverse_maximal(p, true);
+        let later = lower.start.max(higher.start);
+        let fixed = Fixed {
+            needle_len: m,
+            haystack_len: n,
+            mode,
+            crit_pos: c,
+            crit_pos_back: m - later,
+            period: p,
+            byteset: byteset::byteset_create(&self.bytes[..p]),
+        };
+        let memory = Memory::Short {
+            forward: 0,
+            backward: m,
+        };
+        prepared(
+            fixed,
+            memory,
+            Kind::TwoWay,
+            before + (lower.rounds + higher.rounds),
+        )
+    }
+
+    // Step 4: it is none, so the period that is kept is only one that is safe to move by.
+    #[tactic(auto, unfolding(crate::specs::Prepare::prepare_long))]
+    fn long(self, n: usize, mode: Mode, c: usize, before: usize) -> Parts
+        requires { c ≤ length self.bytes.now }
+        ensures { parts_told result ≡ prepare_long self.entry.bytes.now n mode c before }
+    {
+        let m = self.bytes.len();
+        let fixed = Fixed {
+            needle_len: m,
+            haystack_len: n,
+            mode,
+            crit_pos: c,
+            crit_pos_back: c,
+            period: c.max(m - c) + 1,
+            byteset: byteset::byteset_create(self.bytes),
+        };
+        prepared(fixed, Memory::Long, Kind::TwoWay, before)
+    }
+
+    // The five steps.
+    fn five_steps(self, n: usize, mode: Mode) -> Parts
+        ensures { parts_told result ≡ five_steps self.entry.bytes.now n mode }
+    {
+        let split = self.choose();
+        let c = split.start;
+        let p = split.period;
+        let agreed = compare::agree(&self.bytes[..c], &self.bytes[p..p + c]);
+        if agreed < c {
+            return self.long(n, mode, c, split.rounds + (agreed + 1));
         }
+        self.short(n, mode, c, p, split.rounds + c)
     }
 }
 
@@ -98,7 +141,7 @@ fn prepared(fixed: Fixed, memory: Memory, kind: Kind, preparing: usize) -> Parts
     ensures { parts_told result ≡ ready fixed memory kind preparing }
 {
     Parts {
-        answer: Preparation::Ready,
+        answer: Ok(()),
         fixed,
         moving: Moving {
             position: 0,
@@ -108,70 +151,6 @@ fn prepared(fixed: Fixed, memory: Memory, kind: Kind, preparing: usize) -> Parts
         },
         counts: counted(preparing),
     }
-}
-
-// Step 3: p is a period of the needle, and the reverse passes stop where they find it. `before` is what was counted before them.
-fn short(needle: &[u8], n: usize, mode: Mode, c: usize, p: usize, before: usize) -> Parts
-    requires { Period (front needle.now) p × (length needle.now ≤ needle_bound) × (before ≤ 5 * length needle.now) }
-    ensures { parts_told result ≡ prepare_short needle.now n mode c p before }
-{
-    let m = needle.len();
-    let lower = reverse_maximal(needle, p, false);
-    let higher = reverse_maximal(needle, p, true);
-    let later = number::larger(lower.start, higher.start);
-    let fixed = Fixed {
-        needle_len: m,
-        haystack_len: n,
-        mode,
-        crit_pos: c,
-        crit_pos_back: m - later,
-        period: p,
-        byteset: byteset::byteset_create(&needle[0..p]),
-    };
-    let memory = Memory::Short {
-        forward: 0,
-        backward: m,
-    };
-    prepared(
-        fixed,
-        memory,
-        Kind::TwoWay,
-        before + (lower.rounds + higher.rounds),
-    )
-}
-
-// Step 4: it is none, so the period that is kept is only one that is safe to move by.
-fn long(needle: &[u8], n: usize, mode: Mode, c: usize, before: usize) -> Parts
-    requires { c ≤ length needle.now }
-    ensures { parts_told result ≡ prepare_long needle.now n mode c before }
-{
-    let m = needle.len();
-    let period = number::larger(c, m - c) + 1;
-    let fixed = Fixed {
-        needle_len: m,
-        haystack_len: n,
-        mode,
-        crit_pos: c,
-        crit_pos_back: c,
-        period,
-        byteset: byteset::byteset_create(needle),
-    };
-    prepared(fixed, Memory::Long, Kind::TwoWay, before)
-}
-
-// The five steps, for a needle that is not empty and within the bound.
-fn five_steps(needle: &[u8], n: usize, mode: Mode) -> Parts
-    requires { (0 < length needle.now) × (length needle.now ≤ needle_bound) }
-    ensures { parts_told result ≡ five_steps needle.now n mode }
-{
-    let split = choose(needle);
-    let c = split.start;
-    let p = split.period;
-    let agreed = compare::agree(&needle[0..c], &needle[p..p + c]);
-    if agreed < c {
-        return long(needle, n, mode, c, split.rounds + (agreed + 1));
-    }
-    short(needle, n, mode, c, p, split.rounds + c)
 }
 
 // What preparing fixes where it has nothing to split: the lengths and the mode, and zeros.
@@ -205,7 +184,7 @@ fn refused(why: Refusal) -> Parts
     ensures { parts_told result ≡ refuse why }
 {
     Parts {
-        answer: Preparation::Refused(why),
+        answer: Err(why),
         fixed: lengths_alone(0, 0, Mode::NonOverlapping),
         moving: Moving {
             position: 0,
@@ -222,12 +201,11 @@ pub fn prepare(needle: &[u8], n: usize, mode: Mode) -> Parts
     ensures rule { parts_told result ≡ prepare_rule needle.now n mode }
     ensures meaning { NoState (parts_told result) }
 {
-    let check = limits::check_lengths(n, needle.len());
-    if let Check::Refuse(why) = check {
+    if let Err(why) = limits::check_lengths(n, needle.len()) {
         return refused(why);
     }
-    if needle.len() == 0 {
+    if needle.is_empty() {
         return empty(n, mode);
     }
-    five_steps(needle, n, mode)
+    Needle { bytes: needle }.five_steps(n, mode)
 }
