@@ -2,7 +2,7 @@
 -- Assumes nothing.
 use Prim.Native.Nat.{ℕ, ◌+◌, ◌-◌, ◌<◌}
 use mathlib.Core.Path.{◌≡◌, refl}
-use Rattle.std.specs.Prelude.{Option, None, Some}
+use Rattle.std.specs.Prelude.{Option, None, Some, Ok}
 use native.Mathlib.Omega.{arith}
 use Rattle.words.specs.Word.{Word, mirror}
 use Rattle.words.specs.Choice.{FindsLeast}
@@ -27,14 +27,14 @@ module _ (x h : Word) where
   abbrev n : ℕ
   n = h.size
 
-  pub answers_least : (a : ℕ) (t : Stop) → FindsLeast (OccursFrom x h a) (place t) → AnswersLeast (OccursFrom x h a) m (match_answer (ending_of m t))
+  pub answers_least : (a : ℕ) (t : Stop) → FindsLeast (OccursFrom x h a) (place t) → AnswersLeast (OccursFrom x h a) m (match_answer (Ok (ending_of m t)))
   answers_least a (Stop.Hit k) l = (l, refl)
   answers_least a Stop.Passed l = l
   answers_least a Stop.Out l = l
 
   -- b and a face each other: what starts below b here starts at a or after it in the mirror
   pub answers_greatest : (b a : ℕ) {t t' : Stop} → Facing x h b a → MirroredStop m n t t' → FindsLeast (OccursFrom (mirror x) (mirror h) a) (place t')
-      → AnswersGreatest (OccursBelow x h b) m (match_answer (ending_of m t))
+      → AnswersGreatest (OccursBelow x h b) m (match_answer (Ok (ending_of m t)))
   answers_greatest b a facing (MirroredStop.hit {k} {k'} q) l =
       let there : k ≡ mirrored x h k' = omega arith in
       (rw there (least_greatest x h b a facing k' l), refl)
@@ -43,7 +43,7 @@ module _ (x h : Word) where
 
   -- a step's match moves by the needle's size; all that starts where it stands or after it is still to be given
   module _ (v : Plan) (whole : v.shift ≡ x.size) where
-    pub step_settles : (a b : ℕ) (t : Stop) → Settled v x h a b t → StepMeans x h a a b (step_answer (ending_of m t) a b)
+    pub step_settles : (a b : ℕ) (t : Stop) → Settled v x h a b t → StepMeans x h a a b (step_answer (Ok (ending_of m t)) a b)
     step_settles a b (Stop.Hit k) s = let here = s.0 in let there = s.1 in (here, omega arith, refl, (omega arith, rw here s.2))
     step_settles a b Stop.Passed s = (refl, refl, s.0, s.1)
     step_settles a b Stop.Out s = (refl, refl, s.0, s.1)
@@ -55,7 +55,7 @@ module _ (x h : Word) where
           let less = s.0 in
           (refl, refl, omega arith, λ j lo hi o. s.1 (mirrored x h j) (omega arith) (let fits = o.fits in omega arith) (occurs_mirror x h j o))
 
-      pub step_settles_back : {t t' : Stop} → MirroredStop m n t t' → Settled v (mirror x) (mirror h) e' a' t' → StepBackMeans x h (e + 1 - m) e a (step_answer (ending_of m t) a e)
+      pub step_settles_back : {t t' : Stop} → MirroredStop m n t t' → Settled v (mirror x) (mirror h) e' a' t' → StepBackMeans x h (e + 1 - m) e a (step_answer (Ok (ending_of m t)) a e)
       step_settles_back (MirroredStop.hit {k} {k'} q) s =
           let here = s.0 in
           let there = s.1 in

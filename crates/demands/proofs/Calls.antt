@@ -30,6 +30,7 @@ use Rattle.record.specs.Fits.{fits, fitting}
 use Rattle.record.specs.Kinds.{flags_of, overlaps, forward_plan, backward_plan, forward_cursor, backward_cursor, moved_forward, moved_backward, backward_period_memory}
 use Rattle.record.proofs.Fitting.{forward_follows, backward_follows, two_way_some, fits_forward, fits_backward}
 use Rattle.record.proofs.Moves.{Goes, known_now, known_back_now, moved_forward_lem, moved_backward_lem}
+use Rattle.std.specs.Prelude.{Ok, Err}
 use Rattle.search.specs.declared.Ending.{Ending}
 use Rattle.search.specs.declared.Walked.{Walked}
 use Rattle.search.specs.Calls.{step_check, refusal, free, ending_of, or_walked, forward, backward, walked_forward, walked_backward, forward_by, backward_by, forward_call, backward_call}
@@ -46,12 +47,12 @@ apart e = omega arith
 
 -- what a search is to a step or a next match: its matches
 module _ (m : ℕ) where
-  pub step_hits : (low high : ℕ) (t : Stop) → step_matches (step_answer (ending_of m t) low high) ≡ hits t
+  pub step_hits : (low high : ℕ) (t : Stop) → step_matches (step_answer (Ok (ending_of m t)) low high) ≡ hits t
   step_hits low high (Stop.Hit k) = refl
   step_hits low high Stop.Passed = refl
   step_hits low high Stop.Out = refl
 
-  pub match_hits : (t : Stop) → next_matches (match_answer (ending_of m t)) ≡ hits t
+  pub match_hits : (t : Stop) → next_matches (match_answer (Ok (ending_of m t))) ≡ hits t
   match_hits (Stop.Hit k) = refl
   match_hits Stop.Passed = refl
   match_hits Stop.Out = refl
@@ -74,7 +75,7 @@ passes needle haystack ok f s fit stepping = rw (within_passes (length haystack)
 
 -- it refuses a step where matches may overlap: what has to be shown of that
 abbrev pub StepRefused : (Walked → Type 0) → Bool → Fixed → Moving → Type 0
-StepRefused P stepping f s = (stepping && overlaps f.mode) ≡ true → P (free (Ending.Refused StepOverlapping) s)
+StepRefused P stepping f s = (stepping && overlaps f.mode) ≡ true → P (free (Err StepOverlapping) s)
 
 pub by_check : (P : Walked → Type 0) (stepping : Bool) (f : Fixed) (s : Moving) {otherwise : Walked} → StepRefused P stepping f s
     → ((stepping && overlaps f.mode) ≡ false → P otherwise)
@@ -136,7 +137,7 @@ module _ (needle haystack : List ℕ) (ok : Allowed needle haystack) (f : Fixed)
   -- ---- the calls
 
   module _ (P : Walked → Type 0) (stepping : Bool) where
-    pub forward_cases : StepRefused P stepping f s → (stepping ≡ true → s.position ≡ n → P (free Ending.Done s))
+    pub forward_cases : StepRefused P stepping f s → (stepping ≡ true → s.position ≡ n → P (free (Ok Ending.Done) s))
         → ((stepping && overlaps f.mode) ≡ false → (stepping ≡ true → s.position ≡ n → ⊥) → P (walked_forward m s (forward stepping needle haystack f s)))
         → P (forward_call stepping needle haystack f s)
     unfolding forward_call
@@ -145,7 +146,7 @@ module _ (needle haystack : List ℕ) (ok : Allowed needle haystack) (f : Fixed)
         (by_check P stepping f s refuses
         (λ e. subst (λ kind. P (forward_by (flags_of kind) stepping needle haystack f s)) (sym two_way) (by_done P stepping s.position n still (more e))))
 
-    pub backward_cases : StepRefused P stepping f s → (stepping ≡ true → s.end ≡ 0 → P (free Ending.Done s))
+    pub backward_cases : StepRefused P stepping f s → (stepping ≡ true → s.end ≡ 0 → P (free (Ok Ending.Done) s))
         → ((stepping && overlaps f.mode) ≡ false → (stepping ≡ true → s.end ≡ 0 → ⊥) → P (walked_backward m s (backward stepping needle haystack f s)))
         → P (backward_call stepping needle haystack f s)
     unfolding backward_call

@@ -8,11 +8,11 @@ use mathlib.Core.List.{List, [], ◌∷◌}
 use native.Mathlib.Omega.{arith}
 use lib.Dec.{eqb}
 use lib.ListN.{length}
-use Rattle.limits.specs.declared.Check.{Check}
+use Rattle.std.specs.Prelude.{Result, Ok, Err}
 use Rattle.limits.specs.declared.Refusal.{Refusal}
 use Rattle.limits.specs.declared.Refusal.TheVariants.{StateDoesNotFit, StepOverlapping}
 use Rattle.limits.specs.Refusals.{number_of}
-use Rattle.limits.specs.Checks.{lengths, refuse_if, and_then}
+use Rattle.limits.specs.Checks.{Check, lengths, refuse_if, and_then}
 use Rattle.limits.specs.Said.{refused}
 use Rattle.limits.proofs.Checks.{lengths_refuse}
 use Rattle.record.specs.declared.Kind.{Kind}
@@ -38,23 +38,23 @@ use Rattle.demands.proofs.Calls.{passes, forward_goes, backward_goes, forward_ca
 use Rattle.demands.proofs.Turns.{goes_ahead, goes_back, forward_turns, backward_turns}
 
 -- what a call came to is no refusal, be it a step or a next match
-abbrev Answers : Ending → Type 0
+abbrev Answers : Result Ending Refusal → Type 0
 Answers e = (number : ℕ) → ((low high : ℕ) → step_answer e low high ≡ refused number → ⊥) × (match_answer e ≡ refused number → ⊥)
 
 -- two answers that `cc` tells apart
 apart : ◌≡◌ {A = ℕ} 0 1 → ⊥
 apart e = omega arith
 
-match_is : (a b : ℕ) → Answers (Ending.Match a b)
+match_is : (a b : ℕ) → Answers (Ok (Ending.Match a b))
 match_is a b number = ((λ low high e. apart cc), λ e. apart cc)
 
-passed_is : Answers Ending.Passed
+passed_is : Answers (Ok Ending.Passed)
 passed_is number = ((λ low high e. apart cc), λ e. apart cc)
 
-done_is : Answers Ending.Done
+done_is : Answers (Ok Ending.Done)
 done_is number = ((λ low high e. apart cc), λ e. apart cc)
 
-stop_is : (m : ℕ) (t : Stop) → Answers (ending_of m t)
+stop_is : (m : ℕ) (t : Stop) → Answers (Ok (ending_of m t))
 stop_is m (Stop.Hit k) = match_is k _
 stop_is m Stop.Passed = passed_is
 stop_is m Stop.Out = λ number. ((λ low high e. apart cc), λ e. apart cc)
@@ -94,13 +94,13 @@ module _ (needle haystack : List ℕ) (ok : Allowed needle haystack) (f : Fixed)
 
   -- a step where they may is refused
   module _ (may : overlaps f.mode ≡ true) where
-    last_check : refusal true needle haystack f s ≡ Check.Refuse StepOverlapping
+    last_check : refusal true needle haystack f s ≡ Err StepOverlapping
     last_check = passes needle haystack ok f s fit true ∙ rw may
 
-    pub step_refused : forward_call true needle haystack f s ≡ free (Ending.Refused StepOverlapping) s
+    pub step_refused : forward_call true needle haystack f s ≡ free (Err StepOverlapping) s
     step_refused = sym (forward_refused needle haystack f s true refl last_check refl)
 
-    pub step_back_refused : backward_call true needle haystack f s ≡ free (Ending.Refused StepOverlapping) s
+    pub step_back_refused : backward_call true needle haystack f s ≡ free (Err StepOverlapping) s
     step_back_refused = sym (backward_refused needle haystack f s true refl last_check refl)
 
 -- no call is refused but such a step, and the state that it hands back fits
@@ -136,36 +136,36 @@ fixed_stays needle haystack s (Call.next_match_back ∷ earlier) = fixed_stays n
 -- ---- refusal 3
 
 -- what the checks refuse by
-lengths_not_three : (n m : ℕ) {why : Refusal} → lengths n m ≡ Check.Refuse why → number_of why ≡ 3 → ⊥
+lengths_not_three : (n m : ℕ) {why : Refusal} → lengths n m ≡ Err why → number_of why ≡ 3 → ⊥
 lengths_not_three n m e three = ⊎_elim (λ one. let is = one.0 in omega arith) (λ two. let is = two.0 in omega arith) (lengths_refuse n m refl e)
 
-refusal_not_three : (stepping : Bool) (needle haystack : List ℕ) (f : Fixed) (s : Moving) {why : Refusal} → refusal stepping needle haystack f s ≡ Check.Refuse why → number_of why ≡ 3 → ⊥
+refusal_not_three : (stepping : Bool) (needle haystack : List ℕ) (f : Fixed) (s : Moving) {why : Refusal} → refusal stepping needle haystack f s ≡ Err why → number_of why ≡ 3 → ⊥
 unfolding refusal fitting
 refusal_not_three stepping needle haystack f s {why} = go (lengths (length haystack) (length needle)) (fits needle haystack f s) (stepping && overlaps f.mode) refl
   where
     go : (l : Check) (b o : Bool) → lengths (length haystack) (length needle) ≡ l
-        → and_then l (and_then (cond b Check.Pass (Check.Refuse StateDoesNotFit)) (refuse_if o StepOverlapping)) ≡ Check.Refuse why → number_of why ≡ 3 → ⊥
-    go (Check.Refuse _) b o el e three = lengths_not_three _ _ (el ∙ e) three
-    go Check.Pass false o el e three = let z : number_of StateDoesNotFit ≡ 3 = cc in omega arith
-    go Check.Pass true true el e three = let z : number_of StepOverlapping ≡ 3 = cc in omega arith
-    go Check.Pass true false el e three = apart cc
+        → and_then l (and_then (cond b (Ok tt) (Err StateDoesNotFit)) (refuse_if o StepOverlapping)) ≡ Err why → number_of why ≡ 3 → ⊥
+    go (Err _) b o el e three = lengths_not_three _ _ (el ∙ e) three
+    go (Ok checked) false o el e three = let z : number_of StateDoesNotFit ≡ 3 = cc in omega arith
+    go (Ok checked) true true el e three = let z : number_of StepOverlapping ≡ 3 = cc in omega arith
+    go (Ok checked) true false el e three = apart cc
 
 -- what a call came to is no refusal by 3
-abbrev NotByThree : Ending → Type 0
+abbrev NotByThree : Result Ending Refusal → Type 0
 NotByThree e = ((low high : ℕ) → step_answer e low high ≡ refused 3 → ⊥) × (match_answer e ≡ refused 3 → ⊥)
 
-by_number : (why : Refusal) → (number_of why ≡ 3 → ⊥) → NotByThree (Ending.Refused why)
+by_number : (why : Refusal) → (number_of why ≡ 3 → ⊥) → NotByThree (Err why)
 by_number why other = ((λ low high e. let z : number_of why ≡ 3 = cc in other z), λ e. let z : number_of why ≡ 3 = cc in other z)
 
 module _ (needle haystack : List ℕ) (f : Fixed) (s : Moving) (stepping : Bool) where
   -- a call is refused by the checks, or not at all
   not_three : (w : Walked) → (Passed stepping needle haystack f s → Answers w.ending)
-      → ((why : Refusal) → refusal stepping needle haystack f s ≡ Check.Refuse why → free (Ending.Refused why) s ≡ w) → NotByThree w.ending
+      → ((why : Refusal) → refusal stepping needle haystack f s ≡ Err why → free (Err why) s ≡ w) → NotByThree w.ending
   not_three w passed by = go (refusal stepping needle haystack f s) refl
     where
       go : (c : Check) → refusal stepping needle haystack f s ≡ c → NotByThree w.ending
-      go Check.Pass e = passed (refusal_passed needle haystack f s stepping e) 3
-      go (Check.Refuse why) e = subst (λ (r : Walked). NotByThree r.ending) (by why e) (by_number why (refusal_not_three stepping needle haystack f s e))
+      go (Ok checked) e = passed (refusal_passed needle haystack f s stepping e) 3
+      go (Err why) e = subst (λ (r : Walked). NotByThree r.ending) (by why e) (by_number why (refusal_not_three stepping needle haystack f s e))
 
   forward_three : NotByThree (forward_call stepping needle haystack f s).ending
   forward_three =
@@ -185,9 +185,9 @@ unfolding prepare_rule
 new_three needle n mode = go (lengths n (length needle)) (eqb (length needle) 0) refl
   where
     go : (c : Check) (b : Bool) → lengths n (length needle) ≡ c → (or_parts c (cond b (empty_walk n mode) (five_steps needle n mode))).answer ≡ refused 3 → ⊥
-    go (Check.Refuse why) b el e = let z : number_of why ≡ 3 = cc in lengths_not_three n (length needle) el z
-    go Check.Pass true el e = apart cc
-    go Check.Pass false el e = let q = prepared_ready needle n mode in apart cc
+    go (Err why) b el e = let z : number_of why ≡ 3 = cc in lengths_not_three n (length needle) el z
+    go (Ok checked) true el e = apart cc
+    go (Ok checked) false el e = let q = prepared_ready needle n mode in apart cc
 
 pub never_three : (needle haystack : List ℕ) (s : TwoWaySearcher) → NeverThree needle haystack s
 never_three needle haystack s =

@@ -20,6 +20,8 @@ use Rattle.record.specs.declared.Moving.{Moving}
 use Rattle.record.specs.Fits.{fits}
 use Rattle.record.specs.Kinds.{flags_of}
 use Rattle.record.proofs.Fitting.{StateFits, KindFits, state, decides_fits}
+use Rattle.std.specs.Prelude.{Result, Ok, Err}
+use Rattle.limits.specs.declared.Refusal.{Refusal}
 use Rattle.search.specs.declared.Ending.{Ending}
 use Rattle.search.specs.declared.Walked.{Walked}
 use Rattle.search.specs.Calls.{walking, free, turn_ending, forward_by, backward_by, forward_call, backward_call}
@@ -55,26 +57,26 @@ module _ (x h : Word) (blank : x.size ≡ 0) where
 -- ---- the answers
 
 -- the matches of a call
-abbrev pub gave : Ending → List ℕ
-gave (Ending.Match a b) = a ∷ []
-gave (Ending.Refused why) = []
-gave Ending.Done = []
-gave Ending.Passed = []
-gave Ending.Out = []
+abbrev pub gave : Result Ending Refusal → List ℕ
+gave (Ok (Ending.Match a b)) = a ∷ []
+gave (Err why) = []
+gave (Ok Ending.Done) = []
+gave (Ok Ending.Passed) = []
+gave (Ok Ending.Out) = []
 
-pub step_gave : (low high : ℕ) (e : Ending) → step_matches (step_answer e low high) ≡ gave e
-step_gave low high (Ending.Match a b) = refl
-step_gave low high (Ending.Refused why) = refl
-step_gave low high Ending.Done = refl
-step_gave low high Ending.Passed = refl
-step_gave low high Ending.Out = refl
+pub step_gave : (low high : ℕ) (e : Result Ending Refusal) → step_matches (step_answer e low high) ≡ gave e
+step_gave low high (Ok (Ending.Match a b)) = refl
+step_gave low high (Err why) = refl
+step_gave low high (Ok Ending.Done) = refl
+step_gave low high (Ok Ending.Passed) = refl
+step_gave low high (Ok Ending.Out) = refl
 
-pub match_gave : (e : Ending) → next_matches (match_answer e) ≡ gave e
-match_gave (Ending.Match a b) = refl
-match_gave (Ending.Refused why) = refl
-match_gave Ending.Done = refl
-match_gave Ending.Passed = refl
-match_gave Ending.Out = refl
+pub match_gave : (e : Result Ending Refusal) → next_matches (match_answer e) ≡ gave e
+match_gave (Ok (Ending.Match a b)) = refl
+match_gave (Err why) = refl
+match_gave (Ok Ending.Done) = refl
+match_gave (Ok Ending.Passed) = refl
+match_gave (Ok Ending.Out) = refl
 
 -- ---- the calls
 
@@ -112,13 +114,13 @@ module _ (needle haystack : List ℕ) (ok : Allowed needle haystack) (f : Fixed)
   -- what is shown of each way holds of a call
   module _ (P : Walked → Type 0) (stepping : Bool) where
     -- as it stands where nothing changes
-    still : {e : Ending} → P (free e s) → P (free e (record { position = s.position; end = s.end; memory = s.memory; kind = Empty ahead behind }))
+    still : {e : Result Ending Refusal} → P (free e s) → P (free e (record { position = s.position; end = s.end; memory = s.memory; kind = Empty ahead behind }))
     still {e} p = subst (λ kind. P (free e (record { position = s.position; end = s.end; memory = s.memory; kind = kind }))) empty p
 
-    pub forward_turns : StepRefused P stepping f s → (ahead ≡ true → P (free (Ending.Match s.position s.position) (stood s.position false)))
-        → (ahead ≡ false → s.position ≡ n → P (free Ending.Done s))
-        → (ahead ≡ false → s.position < n → stepping ≡ true → P (free Ending.Passed (stood (s.position + 1) true)))
-        → (ahead ≡ false → s.position < n → stepping ≡ false → P (free (Ending.Match (s.position + 1) (s.position + 1)) (stood (s.position + 1) false)))
+    pub forward_turns : StepRefused P stepping f s → (ahead ≡ true → P (free (Ok (Ending.Match s.position s.position)) (stood s.position false)))
+        → (ahead ≡ false → s.position ≡ n → P (free (Ok Ending.Done) s))
+        → (ahead ≡ false → s.position < n → stepping ≡ true → P (free (Ok Ending.Passed) (stood (s.position + 1) true)))
+        → (ahead ≡ false → s.position < n → stepping ≡ false → P (free (Ok (Ending.Match (s.position + 1) (s.position + 1))) (stood (s.position + 1) false)))
         → P (forward_call stepping needle haystack f s)
     unfolding forward_call
     forward_turns refuses given over passed next =
@@ -129,17 +131,17 @@ module _ (needle haystack : List ℕ) (ok : Allowed needle haystack) (f : Fixed)
         (by_check P stepping f s refuses
         (λ _.
         subst (λ kind. P (forward_by (flags_of kind) stepping needle haystack f s)) (sym empty)
-        (by_turn (λ (r : Turned). P (free (turn_ending r.gives (n - r.side.ahead)) (stood (n - r.side.ahead) r.side.is_match))) stepping
+        (by_turn (λ (r : Turned). P (free (Ok (turn_ending r.gives (n - r.side.ahead))) (stood (n - r.side.ahead) r.side.is_match))) stepping
         (record { ahead = n - s.position; is_match = ahead })
         (λ e. rw here (given e))
         (λ e z. rw here (still (over e (omega arith))))
         (λ e more t. rw (there more) (passed e (omega arith) t))
         (λ e more t. rw (there more) (next e (omega arith) t)))))
 
-    pub backward_turns : StepRefused P stepping f s → (behind ≡ true → P (free (Ending.Match s.end s.end) (stood_back s.end false)))
-        → (behind ≡ false → s.end ≡ 0 → P (free Ending.Done s))
-        → (behind ≡ false → 0 < s.end → stepping ≡ true → P (free Ending.Passed (stood_back (s.end - 1) true)))
-        → (behind ≡ false → 0 < s.end → stepping ≡ false → P (free (Ending.Match (s.end - 1) (s.end - 1)) (stood_back (s.end - 1) false)))
+    pub backward_turns : StepRefused P stepping f s → (behind ≡ true → P (free (Ok (Ending.Match s.end s.end)) (stood_back s.end false)))
+        → (behind ≡ false → s.end ≡ 0 → P (free (Ok Ending.Done) s))
+        → (behind ≡ false → 0 < s.end → stepping ≡ true → P (free (Ok Ending.Passed) (stood_back (s.end - 1) true)))
+        → (behind ≡ false → 0 < s.end → stepping ≡ false → P (free (Ok (Ending.Match (s.end - 1) (s.end - 1))) (stood_back (s.end - 1) false)))
         → P (backward_call stepping needle haystack f s)
     unfolding backward_call
     backward_turns refuses given over passed next =
@@ -147,7 +149,7 @@ module _ (needle haystack : List ℕ) (ok : Allowed needle haystack) (f : Fixed)
         (by_check P stepping f s refuses
         (λ _.
         subst (λ kind. P (backward_by (flags_of kind) stepping needle haystack f s)) (sym empty)
-        (by_turn (λ (r : Turned). P (free (turn_ending r.gives r.side.ahead) (stood_back r.side.ahead r.side.is_match))) stepping
+        (by_turn (λ (r : Turned). P (free (Ok (turn_ending r.gives r.side.ahead)) (stood_back r.side.ahead r.side.is_match))) stepping
         (record { ahead = s.end; is_match = behind }) given (λ e z. still (over e z)) passed next)))
 
   -- the places that are open before the call, by the flags
