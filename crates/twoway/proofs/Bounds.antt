@@ -8,9 +8,10 @@ use native.Mathlib.Nat.{zero-add}
 use native.Mathlib.Omega.{arith}
 use native.Mathlib.Decide.{ℕ_discrete}
 use lib.ListN.{length, get_or}
-use Rattle.limits.specs.Checks.{lengths}
-use Rattle.limits.specs.declared.Check.{Check}
+use Rattle.limits.specs.Checks.{Check, lengths}
+use Rattle.std.specs.Prelude.{Ok, Err}
 use Rattle.limits.proofs.Checks.{lengths_pass}
+use Rattle.scan.specs.Scanned.{scan_of}
 use Rattle.scan.proofs.Laws.{scan_few}
 use Rattle.windows.specs.Bounds.{Bounded}
 use Rattle.record.specs.declared.Mode.TheVariants.{NonOverlapping}
@@ -18,7 +19,7 @@ use Rattle.searcher.specs.Walk.{new_rule}
 use Rattle.demands.specs.Allowed.{Allowed}
 use Rattle.demands.specs.Reached.{Call, called, after}
 use Rattle.demands.proofs.Costs.{demand_3}
-use Rattle.twoway.specs.Find.{SearchTold, scan_of, match_of, searched}
+use Rattle.twoway.specs.Find.{SearchTold, match_of, searched}
 use Rattle.twoway.specs.Meaning.{SearchBounded}
 use Rattle.twoway.proofs.Laws.{search_refused, search_empty, search_one, search_longer}
 
@@ -44,8 +45,8 @@ module _ (text pattern : List ℕ) where
       free = omega arith
 
       go : (c : Check) → c ≡ lengths (length text) (length pattern) → SearchBounded text pattern (searched backward text pattern).counts
-      go (Check.Refuse why) e = bounded (search_refused backward text pattern e refl refl) free
-      go Check.Pass e =
+      go (Err why) e = bounded (search_refused backward text pattern e refl refl) free
+      go (Ok checked) e =
           elim (ℕ_discrete (length pattern) 0) [
             | yes z ↦ bounded (search_empty backward text pattern e refl z refl refl) free
             | no s ↦ elim (ℕ_discrete (length pattern) 1) [

@@ -4,25 +4,24 @@ use Prim.Native.Nat.{ℕ}
 use mathlib.Core.Path.{◌≡◌, refl, sym, subst}
 use mathlib.Core.Bool.{Bool, true, false}
 use mathlib.Core.List.{List, [], ◌∷◌}
-use Rattle.std.specs.Prelude.{Option, None, Some}
+use Rattle.std.specs.Prelude.{Option, None, Some, Ok, Err}
 use native.Mathlib.Omega.{arith}
 use native.Mathlib.Decide.{ℕ_discrete}
 use lib.ListN.{length, get_or}
 use Rattle.words.specs.Word.{front}
 use Rattle.words.specs.Choice.{FindsLeast, FindsGreatest}
 use Rattle.words.specs.Occurs.{Occurs}
-use Rattle.limits.specs.Checks.{lengths, Within}
+use Rattle.limits.specs.Checks.{Check, lengths, Within}
 use Rattle.limits.specs.Said.{Said, refused, given}
-use Rattle.limits.specs.declared.Check.{Check}
 use Rattle.limits.proofs.Checks.{lengths_pass, lengths_refuse}
-use Rattle.scan.specs.Scanned.{from_front, from_back}
+use Rattle.scan.specs.Scanned.{from_front, from_back, scan_of}
 use Rattle.scan.proofs.Laws.{front_means, back_means}
 use Rattle.record.specs.declared.Mode.TheVariants.{NonOverlapping}
 use Rattle.searcher.specs.Walk.{new_rule}
 use Rattle.demands.specs.Means.{AnswersLeast, AnswersGreatest}
 use Rattle.demands.proofs.Turns.{stands}
 use Rattle.demands.proofs.Meaning.{find_least, rfind_greatest}
-use Rattle.twoway.specs.Find.{SearchTold, of_match, empty_place, scan_of, match_of, searched, find_rule, rfind_rule}
+use Rattle.twoway.specs.Find.{SearchTold, of_match, empty_place, match_of, searched, find_rule, rfind_rule}
 use Rattle.twoway.specs.Meaning.{Meant, FindMeaning, RfindMeaning, SearchBounded}
 use Rattle.twoway.proofs.Laws.{search_refused, search_empty, search_one, search_longer}
 use Rattle.twoway.proofs.Bounds.{searched_bounded}
@@ -32,7 +31,7 @@ module _ (backward : Bool) (text pattern : List ℕ) (Finds : Option ℕ → Typ
     (matches : (k e : ℕ) → Answers (given (Some (k, e))) → Finds (Some k)) (misses : Answers (given None) → Finds None)
     (refuses : (number : ℕ) → Answers (refused number) → ⊥)
     (at_empty : length pattern ≡ 0 → Finds (Some (empty_place backward (length text))))
-    (by_scan : length pattern ≡ 1 → Finds (scan_of backward (get_or pattern 0 0) text).place)
+    (by_scan : length pattern ≡ 1 → Finds (scan_of backward (get_or pattern 0 0) text).found)
     (by_walk : Within (length text) (length pattern) → Answers (match_of backward pattern text (new_rule pattern (length text) NonOverlapping).walk).answer) where
   meant : {r : SearchTold} → r ≡ searched backward text pattern → Meant Finds text pattern r.position → Meant Finds text pattern (searched backward text pattern).position
   meant e m = subst (λ (r : SearchTold). Meant Finds text pattern r.position) e m
@@ -46,8 +45,8 @@ module _ (backward : Bool) (text pattern : List ℕ) (Finds : Option ℕ → Typ
   searched_means = go (lengths (length text) (length pattern)) refl
     where
       go : (c : Check) → c ≡ lengths (length text) (length pattern) → Meant Finds text pattern (searched backward text pattern).position
-      go (Check.Refuse why) e = meant (search_refused backward text pattern e refl refl) (lengths_refuse _ _ e refl)
-      go Check.Pass e =
+      go (Err why) e = meant (search_refused backward text pattern e refl refl) (lengths_refuse _ _ e refl)
+      go (Ok checked) e =
           let w = lengths_pass (length text) (length pattern) e refl in
           elim (ℕ_discrete (length pattern) 0) [
             | yes z ↦ meant (search_empty backward text pattern e refl z refl refl) (w, at_empty z)
@@ -71,14 +70,14 @@ module _ (text pattern : List ℕ) where
   find_means =
       searched_means false text pattern (FindsLeast Stands) (AnswersLeast Stands (length pattern)) (λ k e m. m.0) (λ m. m) (λ number m. m)
       (λ e. record { holds = stands (front pattern) (front text) e 0 (omega arith); none_before = λ j h o. absurd (omega arith) })
-      (λ e. subst (λ (p : List ℕ). FindsLeast (Occurs (front p) (front text)) (from_front (get_or pattern 0 0) text).place) (one_letter pattern e) (front_means (get_or pattern 0 0) text))
+      (λ e. subst (λ (p : List ℕ). FindsLeast (Occurs (front p) (front text)) (from_front (get_or pattern 0 0) text).found) (one_letter pattern e) (front_means (get_or pattern 0 0) text))
       (λ w. find_least pattern text NonOverlapping (record { within = w }))
 
   rfind_means : Meant (FindsGreatest Stands) text pattern (rfind_rule text pattern).position
   rfind_means =
       searched_means true text pattern (FindsGreatest Stands) (AnswersGreatest Stands (length pattern)) (λ k e m. m.0) (λ m. m) (λ number m. m)
       (λ e. record { holds = stands (front pattern) (front text) e (length text) (omega arith); none_after = λ j h o. let f = o.fits in absurd (omega arith) })
-      (λ e. subst (λ (p : List ℕ). FindsGreatest (Occurs (front p) (front text)) (from_back (get_or pattern 0 0) text).place) (one_letter pattern e) (back_means (get_or pattern 0 0) text))
+      (λ e. subst (λ (p : List ℕ). FindsGreatest (Occurs (front p) (front text)) (from_back (get_or pattern 0 0) text).found) (one_letter pattern e) (back_means (get_or pattern 0 0) text))
       (λ w. rfind_greatest pattern text NonOverlapping (record { within = w }))
 
   -- what each return has to show, from the rule's answer alone

@@ -1,24 +1,22 @@
 -- Whole searches: 01's "Whole searches and counts", and the codes of the C functions.
 -- `backward` says which of the two directions a search has. Assumes nothing.
 use Rattle.std.specs.Prelude.{ℕ, ◌-◌, ◌^◌, Bool, true, false, cond, List, eqb, length, get_or}
-use Rattle.std.specs.Prelude.{Option, None, Some}
-use Rattle.limits.specs.Checks.{lengths}
+use Rattle.std.specs.Prelude.{Option, None, Some, Result, Ok, Err}
+use Rattle.limits.specs.Checks.{Check, lengths}
 use Rattle.limits.specs.Refusals.{number_of}
-use Rattle.limits.specs.Said.{Said, refused, given}
-use Rattle.limits.specs.declared.Check.{Check}
-use Rattle.scan.specs.Scanned.{ScanTold, from_front, from_back}
+use Rattle.limits.specs.Said.{Said, refused, given, said}
+use Rattle.limits.specs.declared.Refusal.{Refusal}
+use Rattle.scan.specs.Scanned.{scan_of}
+use Rattle.scan.specs.declared.Scan.{Scan}
 use Rattle.record.specs.declared.Counts.{Counts}
 use Rattle.record.specs.declared.Mode.TheVariants.{NonOverlapping}
 use Rattle.searcher.specs.Walk.{CallTold, new_rule, next_match_rule, next_match_back_rule}
 use Rattle.searcher.specs.declared.TwoWaySearcher.{TwoWaySearcher}
-use Rattle.twoway.specs.declared.Position.{Position}
 use Rattle.twoway.specs.declared.Answer.{Answer}
 
 -- what an answer says: its refusal's number, or the position or none
-abbrev pub position_said : Position → Said (Option ℕ)
-position_said (Position.At k) = given (Some k)
-position_said Position.Nothing = given None
-position_said (Position.Refused why) = refused (number_of why)
+abbrev pub position_said : Result (Option ℕ) Refusal → Said (Option ℕ)
+position_said position = said position
 
 -- that, and the counts
 pub record SearchTold : Type 0 where
@@ -41,25 +39,21 @@ of_match (refused number) = refused number
 abbrev pub empty_place : Bool → ℕ → ℕ
 empty_place backward n = cond backward n 0
 
--- "One byte: a scan from the front or back."
-abbrev pub scan_of : Bool → ℕ → List ℕ → ScanTold
-scan_of backward x text = cond backward (from_back x text) (from_front x text)
-
 -- "Otherwise prepare, then one next match."
 abbrev pub match_of : Bool → List ℕ → List ℕ → TwoWaySearcher → CallTold (Option (ℕ × ℕ))
 match_of backward pattern text walk = cond backward (next_match_back_rule pattern text walk) (next_match_rule pattern text walk)
 
 -- "An empty or one-byte find prepares nothing and tests nothing"
-abbrev pub by_scan : ScanTold → SearchTold
-by_scan s = told (given s.place) 0 s.comparisons 0
+abbrev pub by_scan : Scan → SearchTold
+by_scan s = told (given s.found) 0 s.comparisons 0
 
 abbrev pub by_walk : ℕ → CallTold (Option (ℕ × ℕ)) → SearchTold
 by_walk preparing r = told (of_match r.answer) preparing r.counts.comparisons r.counts.tests
 
 -- a refusal costs nothing
 abbrev pub or_told : Check → SearchTold → SearchTold
-or_told Check.Pass otherwise = otherwise
-or_told (Check.Refuse why) otherwise = told (refused (number_of why)) 0 0 0
+or_told (Ok passed) otherwise = otherwise
+or_told (Err why) otherwise = told (refused (number_of why)) 0 0 0
 
 -- Checks 1 and 2; then an empty pattern, one byte, and longer ones.
 unfoldable pub searched : Bool → List ℕ → List ℕ → SearchTold
