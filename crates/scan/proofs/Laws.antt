@@ -1,7 +1,7 @@
 -- What a scan's answer is and means, in either direction, once its first x, or the end, is known: proofs/Passes.antt has the way there.
 -- Assumes nothing.
 use Prim.Native.Nat.{ℕ, ◌+◌, ◌-◌, ◌<◌, ◌≤◌}
-use mathlib.Core.Path.{◌≡◌, refl, sym, ◌∙◌, ap, subst}
+use mathlib.Core.Path.{◌≡◌, refl, sym, ◌∙◌, ap}
 use mathlib.Core.Bool.{Bool, true, false, cond}
 use mathlib.Core.List.{List, [], ◌∷◌}
 use Rattle.std.specs.Prelude.{Option, None, Some}
@@ -10,12 +10,11 @@ use lib.Dec.{ltb}
 use lib.ListN.{length, get_or}
 use borrow.Author.Tests.{lt-ltb, le-ltb, ltb-true, ltb-false, eqb-true, eqb-false}
 use Rattle.words.specs.Word.{Word, front, back}
-use Rattle.words.specs.Choice.{Least, Greatest, Nowhere, FindsLeast, FindsGreatest}
+use Rattle.words.specs.Choice.{FindsLeast, FindsGreatest}
 use Rattle.words.specs.Occurs.{Occurs}
-use Rattle.scan.proofs.Passes.{first}
-use Rattle.scan.specs.Scanned.{place_of, ScanTold, before, scanned, from_front, from_back}
-use Rattle.scan.specs.declared.Found.{Found}
-use Rattle.scan.specs.declared.Found.TheVariants.{At, Nothing}
+use Rattle.scan.proofs.Passes.{first, read, start}
+use Rattle.scan.specs.Scanned.{before, scanned, from_front, from_back, scan_of}
+use Rattle.scan.specs.declared.Scan.{Scan}
 
 -- w has k letters, and none of its first k is x
 record Missed (x : ℕ) (w : Word) (k : ℕ) : Type 0 where
@@ -24,12 +23,12 @@ record Missed (x : ℕ) (w : Word) (k : ℕ) : Type 0 where
 
 module _ (x : ℕ) (w : Word) (place : ℕ → ℕ) where
   -- a scan that has passed all letters before the first x, and stands at it
-  scanned_hit : {k : ℕ} → k ≤ before x w → before x w < k + 1 → k < w.size → scanned x w place ≡ record { place = Some (place k); comparisons = k + 1 }
+  scanned_hit : {k : ℕ} → k ≤ before x w → before x w < k + 1 → k < w.size → scanned x w place ≡ record { found = Some (place k); comparisons = k + 1 }
   unfolding scanned
   scanned_hit {k} low high h = let here : before x w ≡ k = omega arith in rw (here, lt-ltb k w.size h)
 
   -- and one that has passed them all
-  scanned_miss : w.size ≤ before x w → scanned x w place ≡ record { place = None; comparisons = w.size }
+  scanned_miss : w.size ≤ before x w → scanned x w place ≡ record { found = None; comparisons = w.size }
   unfolding scanned
   scanned_miss h = rw (le-ltb (before x w) w.size h)
 
@@ -39,28 +38,24 @@ module _ (x : ℕ) (w : Word) (place : ℕ → ℕ) where
   scan_few = go (ltb (before x w) w.size) refl
     where
       go : (b : Bool) → ltb (before x w) w.size ≡ b
-          → (cond {A = ScanTold} b (record { place = Some (place (before x w)); comparisons = before x w + 1 }) (record { place = None; comparisons = w.size })).comparisons ≤ w.size
+          → (cond {A = Scan} b (record { found = Some (place (before x w)); comparisons = before x w + 1 }) (record { found = None; comparisons = w.size })).comparisons ≤ w.size
       go true e = let h = ltb-true (before x w) w.size e in omega arith
       go false e = omega arith
 
   -- what the rule's answer means, for any reading M of a place: a hit and a miss have to be shown
   means : (M : Option ℕ → Type 0) → ((k : ℕ) → k < w.size → w.letter k ≡ x → Missed x w k → M (Some (place k))) → (Missed x w w.size → M None)
-      → M (scanned x w place).place
+      → M (scanned x w place).found
   unfolding scanned
   means M hit miss = go (ltb (before x w) w.size) refl
     where
       go : (b : Bool) → ltb (before x w) w.size ≡ b
-          → M (cond {A = ScanTold} b (record { place = Some (place (before x w)); comparisons = before x w + 1 }) (record { place = None; comparisons = w.size })).place
+          → M (cond {A = Scan} b (record { found = Some (place (before x w)); comparisons = before x w + 1 }) (record { found = None; comparisons = w.size })).found
       go true e =
           let h = ltb-true (before x w) w.size e in
           hit (before x w) h (eqb-true _ _ ((first x w).found (omega arith))) (record { inside = omega arith; other = λ j hj. eqb-false _ _ ((first x w).missed j (omega arith) hj) })
       go false e =
           let h = ltb-false (before x w) w.size e in
           miss (record { inside = omega arith; other = λ j hj. eqb-false _ _ ((first x w).missed j (omega arith) (omega arith)) })
-
--- what the rule's answer means, an answer that equals it means
-settled : (M : Option ℕ → Type 0) {t r : ScanTold} → M t.place → t ≡ r → (r ≡ t) × M r.place
-settled M m e = (sym e, subst (λ (y : ScanTold). M y.place) e m)
 
 module _ (x : ℕ) (text : List ℕ) where
   abbrev Stands : ℕ → Type 0
@@ -80,14 +75,14 @@ module _ (x : ℕ) (text : List ℕ) where
   is_letter k o = sym (o.same 0 k (omega arith) (omega arith))
 
   -- find gives the least position, and nothing exactly if there is none, of one byte
-  pub front_means : FindsLeast Stands (from_front x text).place
+  pub front_means : FindsLeast Stands (from_front x text).found
   front_means =
       means x (front text) (λ k. k) (FindsLeast Stands)
       (λ k h e m. record { holds = stands k h e; none_before = λ j hj o. m.other j hj (is_letter j o) })
       (λ m j o. let f = o.fits in m.other j (omega arith) (is_letter j o))
 
   -- rfind the greatest
-  pub back_means : FindsGreatest Stands (from_back x text).place
+  pub back_means : FindsGreatest Stands (from_back x text).found
   back_means =
       means x (back text) (λ k. length text - (1 + k)) (FindsGreatest Stands)
       (λ k h e m. record {
@@ -96,29 +91,15 @@ module _ (x : ℕ) (text : List ℕ) where
       })
       (λ m j o. let f = o.fits in m.other (length text - (1 + j)) (omega arith) (ap (λ (y : ℕ). get_or text y 0) (omega arith) ∙ is_letter j o))
 
-  -- What each return of a scan has to show, behind k letters passed: the rule's answer, and what it means.
-  pub front_hit : {k : ℕ} → k ≤ before x (front text) → before x (front text) < k + 1 → k < length text
-      → (record { place = Some k; comparisons = k + 1 } ≡ from_front x text) × Least Stands k
-  front_hit low high h = settled (FindsLeast Stands) front_means (scanned_hit x (front text) (λ k. k) low high h)
+  -- What each return of the code shows: behind k letters passed it stands at the first x, at `at` of the text, or no letter is left.
+  pub hit : (backward : Bool) {k at count : ℕ} → k ≤ before x (read text backward) → before x (read text backward) < k + 1 → k < length text
+      → at ≡ start text backward 1 k → count ≡ k + 1 → record { found = Some at; comparisons = count } ≡ scan_of backward x text
+  hit true {k} {at} low high h e n =
+      let there : at ≡ length text - (1 + k) = omega arith in
+      rw (there, n) (sym (scanned_hit x (back text) (λ i. length text - (1 + i)) low high h))
+  hit false low high h e n = rw (e, n) (sym (scanned_hit x (front text) (λ i. i) low high h))
 
-  pub front_miss : length text ≤ before x (front text) → (record { place = None; comparisons = length text } ≡ from_front x text) × Nowhere Stands
-  front_miss h = settled (FindsLeast Stands) front_means (scanned_miss x (front text) (λ k. k) h)
-
-  pub back_hit : {k : ℕ} → k ≤ before x (back text) → before x (back text) < k + 1 → k < length text
-      → (record { place = Some (length text - (1 + k)); comparisons = k + 1 } ≡ from_back x text) × Greatest Stands (length text - (1 + k))
-  back_hit low high h = settled (FindsGreatest Stands) back_means (scanned_hit x (back text) (λ k. length text - (1 + k)) low high h)
-
-  pub back_miss : length text ≤ before x (back text) → (record { place = None; comparisons = length text } ≡ from_back x text) × Nowhere Stands
-  back_miss h = settled (FindsGreatest Stands) back_means (scanned_miss x (back text) (λ k. length text - (1 + k)) h)
-
--- what a scan's answer says loses nothing
-pub place_loses_nothing : (a b : Found) → place_of a ≡ place_of b → a ≡ b
-place_loses_nothing a b e = sym (again a) ∙ ap back_to e ∙ again b
-  where
-    back_to : Option ℕ → Found
-    back_to (Some k) = At k
-    back_to None = Nothing
-
-    again : (a : Found) → back_to (place_of a) ≡ a
-    again (At k) = refl
-    again Nothing = refl
+  pub miss : (backward : Bool) {count : ℕ} → length text ≤ before x (read text backward) → count ≡ length text
+      → record { found = None; comparisons = count } ≡ scan_of backward x text
+  miss true h n = rw n (sym (scanned_miss x (back text) (λ i. length text - (1 + i)) h))
+  miss false h n = rw n (sym (scanned_miss x (front text) (λ i. i) h))

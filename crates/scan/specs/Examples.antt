@@ -4,7 +4,8 @@ use Rattle.std.specs.Prelude.{ℕ, List, [], ◌∷◌, T}
 use Rattle.std.specs.Prelude.{Option, None, Some}
 use Rattle.words.specs.Choice.{first_from}
 use Rattle.words.specs.Examples.{Example, banana, same, all_as_stated}
-use Rattle.scan.specs.Scanned.{ScanTold, before, scanned, from_front, from_back}
+use Rattle.scan.specs.Scanned.{before, scanned, from_front, from_back}
+use Rattle.scan.specs.declared.Scan.{Scan}
 
 -- a place is written as the list of it alone, and none as the empty list
 abbrev pub written : Option ℕ → List ℕ
@@ -12,8 +13,8 @@ written (Some k) = k ∷ []
 written None = []
 
 -- the comparisons of a scan, and its place
-abbrev pub numbers : ScanTold → List ℕ
-numbers s = s.comparisons ∷ written s.place
+abbrev pub numbers : Scan → List ℕ
+numbers s = s.comparisons ∷ written s.found
 
 abbrev pub table : List Example
 table =

@@ -1,22 +1,16 @@
 #![tactic(auto)]
 
-ghost use Rattle.std.specs.Prelude.{◌≡◌, cond, not, [], ◌∷◌, ◌+◌, ◌-◌, ◌<◌, ◌≤◌, eqb, length, get_or};
+ghost use Rattle.std.specs.Prelude.{◌≡◌, cond, not, [], ◌∷◌, ◌+◌, ◌-◌, ◌<◌, ◌≤◌, eqb, length};
+ghost use Rattle.std.specs.List.{list_all};
 ghost use Rattle.words.specs.Word.{front, back};
-ghost use Rattle.words.specs.Choice.{FindsLeast, FindsGreatest, every};
+ghost use Rattle.words.specs.Choice.{FindsLeast, FindsGreatest};
 ghost use Rattle.words.specs.Occurs.{Occurs};
-ghost use Rattle.scan.specs.Scanned.{place_of, scan_told, before, from_front, from_back};
-
-// Where a scan found its byte.
-#[derive(Clone, Copy)]
-pub enum Found {
-    At(usize),
-    Nothing,
-}
+ghost use Rattle.scan.specs.Scanned.{before, from_front, from_back, scan_of};
 
 // What a scan answers: the place, and how many bytes it compared.
 #[derive(Clone, Copy)]
 pub struct Scan {
-    pub found: Found,
+    pub found: Option<usize>,
     pub comparisons: usize,
 }
 
@@ -26,53 +20,39 @@ const ROUND: usize = 8;
 
 const BLOCK: usize = 8 * ROUND;
 
-// Reads a byte: the one place of this crate that does.
-fn letter(text: &[u8], i: usize) -> u8
-    requires { i < length text.now }
-    ensures { result ≡ get_or text.now i 0 }
-{
-    text[i]
-}
-
-// Whether none of `count` bytes is `x`, from the one at `from` on. All of them are looked at, in rising order, and the loop has one
-// way out: in this shape the compiler compares sixteen of them at once.
-fn without(x: u8, text: &[u8], from: usize, count: usize) -> bool
-    requires { from + count ≤ length text.now }
-    ensures { result ≡ every count (λ i. not (eqb (get_or text.now (from + i) 0) x)) }
+// Whether none of `bytes` is `x`. All of them are looked at, in rising order, and the loop has one way out: in this shape the compiler
+// compares sixteen of them at once.
+fn without(x: u8, bytes: &[u8]) -> bool
+    ensures { result ≡ list_all (λ y. not (eqb y x)) bytes.now }
 {
     let mut clear = true;
-    let mut k: usize = 0;
-    while k < count {
-        clear = clear & (letter(text, from + k) != x);
-        k += 1;
+    for byte in bytes {
+        clear &= *byte != x;
     }
     clear
 }
 
 // Where the next `width` letters start in a text of which `passed` letters are passed and `left` are left, read from the front or from
 // the back.
-fn start(passed: usize, left: usize, backward: bool, width: usize) -> usize
+fn start<const BACKWARD: bool>(passed: usize, left: usize, width: usize) -> usize
     requires { width ≤ left }
-    ensures { result ≡ cond backward (left - width) passed }
+    ensures { result ≡ cond BACKWARD (left - width) passed }
 {
-    if backward {
-        return left - width;
-    }
-    passed
+    if BACKWARD { left - width } else { passed }
 }
 
 // Passes letters that are not `x`, `width` at a time, of the text read from the front, or from the back: the first that is `x`, or the
 // end, is then less than `width` letters ahead.
-fn pass(x: u8, text: &[u8], backward: bool, passed: usize, width: usize) -> usize
-    requires passed_bound { passed ≤ before x (cond backward (back text.now) (front text.now)) }
+fn pass<const BACKWARD: bool>(x: u8, text: &[u8], passed: usize, width: usize) -> usize
+    requires passed_bound { passed ≤ before x (cond BACKWARD (back text.now) (front text.now)) }
     requires wide { 0 < width }
-    ensures upper_bound { result ≤ before x (cond backward (back text.now) (front text.now)) }
-    ensures near { before x (cond backward (back text.now) (front text.now)) < result + width }
+    ensures upper_bound { result ≤ before x (cond BACKWARD (back text.now) (front text.now)) }
+    ensures near { before x (cond BACKWARD (back text.now) (front text.now)) < result + width }
 {
     let mut at = passed;
     while width <= text.len() - at {
-        let from = start(at, text.len() - at, backward, width);
-        if !without(x, text, from, width) {
+        let from = start::<BACKWARD>(at, text.len() - at, width);
+        if !without(x, &text[from..from + width]) {
             break;
         }
         at += width;
@@ -80,42 +60,37 @@ fn pass(x: u8, text: &[u8], backward: bool, passed: usize, width: usize) -> usiz
     at
 }
 
-// The first byte of `text` that is `x`.
-pub fn memchr(x: u8, text: &[u8]) -> Scan
-    ensures rule { scan_told result ≡ from_front x text.now }
-    ensures meaning { FindsLeast (Occurs (front (x ∷ [])) (front text.now)) (place_of result.found) }
+// The first byte of `text` that is `x`, read from the front, or from the back.
+fn scanned<const BACKWARD: bool>(x: u8, text: &[u8]) -> Scan
+    ensures { result ≡ scan_of BACKWARD x text.now }
 {
-    let blocks = pass(x, text, false, 0, BLOCK);
-    let rounds = pass(x, text, false, blocks, ROUND);
-    let at = pass(x, text, false, rounds, 1);
-    if at < text.len() {
-        return Scan {
-            found: Found::At(at),
-            comparisons: at + 1,
-        };
-    }
-    Scan {
-        found: Found::Nothing,
-        comparisons: text.len(),
-    }
-}
-
-// The last byte of `text` that is `x`.
-pub fn memrchr(x: u8, text: &[u8]) -> Scan
-    ensures rule { scan_told result ≡ from_back x text.now }
-    ensures meaning { FindsGreatest (Occurs (front (x ∷ [])) (front text.now)) (place_of result.found) }
-{
-    let blocks = pass(x, text, true, 0, BLOCK);
-    let rounds = pass(x, text, true, blocks, ROUND);
-    let passed = pass(x, text, true, rounds, 1);
+    let blocks = pass::<BACKWARD>(x, text, 0, BLOCK);
+    let rounds = pass::<BACKWARD>(x, text, blocks, ROUND);
+    let passed = pass::<BACKWARD>(x, text, rounds, 1);
     if passed < text.len() {
         return Scan {
-            found: Found::At(text.len() - (1 + passed)),
+            found: Some(start::<BACKWARD>(passed, text.len() - passed, 1)),
             comparisons: passed + 1,
         };
     }
     Scan {
-        found: Found::Nothing,
+        found: None,
         comparisons: text.len(),
     }
+}
+
+// The first byte of `text` that is `x`.
+pub fn memchr(x: u8, text: &[u8]) -> Scan
+    ensures rule { result ≡ from_front x text.now }
+    ensures meaning { FindsLeast (Occurs (front (x ∷ [])) (front text.now)) result.found }
+{
+    scanned::<false>(x, text)
+}
+
+// The last byte of `text` that is `x`.
+pub fn memrchr(x: u8, text: &[u8]) -> Scan
+    ensures rule { result ≡ from_back x text.now }
+    ensures meaning { FindsGreatest (Occurs (front (x ∷ [])) (front text.now)) result.found }
+{
+    scanned::<true>(x, text)
 }
