@@ -1,18 +1,19 @@
--- What a search's loop keeps, and what its passes and its ends show: laws that serve both directions, and what a search forward is to them.
+-- What a search's loop keeps, and what its passes and its ends show, in either direction.
 -- Assumes nothing.
 use Rattle.std.proofs.Common.{◌≡◌, ℕ, zero, suc, ◌+◌, ◌-◌, ◌*◌, ◌^◌, ◌<◌, ◌≤◌, Bool, true, false, cond, not, ◌&&◌, ◌⊎◌, ⊎_elim, eqb, ltb, eq-eqb, ne_eqb, sym, refl, ◌∙◌, arith, ltb-true}
-use native.Mathlib.Nat.{sub-zero}
-use Rattle.words.specs.Word.{Word}
+use Rattle.words.specs.Word.{Word, mirror}
 use Rattle.windows.specs.declared.Plan.{Plan}
 use Rattle.windows.specs.declared.Cursor.{Cursor}
 use Rattle.windows.specs.declared.Outcome.{Outcome}
 use Rattle.windows.specs.declared.Stop.{Stop}
 use Rattle.windows.specs.declared.Searched.{Searched}
-use Rattle.windows.specs.Window.{forward_window}
-use Rattle.windows.specs.Search.{ended, moved_to, forward_search}
-use Rattle.windows.specs.Shape.{Shape}
-use Rattle.windows.proofs.Counts.{Spent, spent_none, spent_window}
-use Rattle.search.specs.Code.{StopFits}
+use Rattle.windows.specs.Window.{forward_window, backward_window}
+use Rattle.windows.specs.Search.{ended, moved_to, forward_search, backward_search}
+use Rattle.windows.specs.Mirror.{mirrored_plan, mirrored_cursor}
+use Rattle.windows.specs.Shape.{Shape, BackShape}
+use Rattle.windows.proofs.Counts.{Spent, spent_window}
+use Rattle.windows.proofs.Mirror.{MirroredCursor, MirroredOutcome, MirroredStop, mirrored_cursor_is, window_mirrored, search_mirrored}
+use Rattle.search.specs.Code.{StopFits, window_of, has_room, window_at, far_end, plan_seen, Start, Room}
 
 -- a step ends its search once it has passed a part, and not before
 pub part_passed : (stepping : Bool) (now start : ℕ) → stepping ≡ true → (now ≡ start → ⊥) → (stepping && not (eqb now start)) ≡ true
@@ -21,113 +22,146 @@ part_passed stepping now start asked moved = rw (asked, ne_eqb now start moved)
 pub no_part_passed : (stepping : Bool) (now start : ℕ) → ((stepping ≡ true) × (now ≡ start)) ⊎ (stepping ≡ false) → (stepping && not (eqb now start)) ≡ false
 no_part_passed stepping now start either = ⊎_elim (λ w. rw (w.0, eq-eqb now start w.1)) (λ w. rw w) either
 
--- a search by its fuel, from a cursor, with the comparisons and the tests so far
-abbrev pub Run : Type 0
-Run = ℕ → Cursor → ℕ → ℕ → Searched
+-- a search with fuel left, in a direction, from a cursor, with the comparisons and the tests so far
+abbrev pub searching : Bool → ℕ → Bool → (ℕ → Bool) → Plan → Word → Word → ℕ → Cursor → ℕ → ℕ → Searched
+searching backward fuel stepping has v x h old s d t =
+    cond backward (backward_search fuel stepping has v x h old s d t) (forward_search fuel stepping has v x h old s d t)
 
--- How a search with fuel left goes on from s: by whether there is room for a window, whether a part has been passed (and the search is to stop at that), and what the window w comes to.
--- A match starts at `place`, and without room the walk ends at `end`.
-pub record Goes (run : Run) (room passed : Bool) (w : Outcome) (place end : ℕ) (s : Cursor) : Type 0 where
-  pub more : (fuel d t : ℕ) → run (suc fuel) s d t
-      ≡ cond room
-      (cond passed
-      (ended Stop.Passed s d t)
-      (cond w.matched
-      (ended (Stop.Hit place) w.next (d + w.comparisons) (t + 1))
-      (run fuel w.next (d + w.comparisons) (t + 1))))
-      (ended Stop.Out (moved_to end s) d t)
+-- How it goes on: by whether there is room for a window, whether a part has been passed (and the search is to stop at that), and what the window comes to.
+goes : (backward : Bool) (fuel : ℕ) (stepping : Bool) (has : ℕ → Bool) (v : Plan) (x h : Word) (old : ℕ) (s : Cursor) (d t : ℕ)
+    → searching backward (suc fuel) stepping has v x h old s d t
+    ≡ (let w = window_of backward has v x h s in
+    cond (has_room backward s.at x.size h.size)
+    (cond (stepping && not (eqb s.at old))
+    (ended Stop.Passed s d t)
+    (cond w.matched
+    (ended (Stop.Hit (window_at backward s.at x.size)) w.next (d + w.comparisons) (t + 1))
+    (searching backward fuel stepping has v x h old w.next (d + w.comparisons) (t + 1))))
+    (ended Stop.Out (moved_to (far_end backward h.size) s) d t))
+unfolding forward_search backward_search
+goes true fuel stepping has v x h old s d t = refl
+goes false fuel stepping has v x h old s d t = refl
+
+-- the cursor of the walk in the mirror, where that is the forward one
+abbrev pub cursor_seen : Bool → ℕ → ℕ → Cursor → Cursor
+cursor_seen backward m n s = cond backward (mirrored_cursor m n s) s
 
 -- What the numbers keep, with a needle of m letters and a haystack of n, at s after d comparisons and t tests:
--- they are those of a forward walk by v that came from a and stands at `seen` of s.
-pub record Keeps (v : Plan) (m n a : ℕ) (seen : Cursor → Cursor) (s : Cursor) (d t : ℕ) : Type 0 where
+-- they are those of a forward walk that came from where `start` is seen and stands where s is.
+pub record Keeps (backward : Bool) (v : Plan) (m n : ℕ) (start s : Cursor) (d t : ℕ) : Type 0 where
   pub within : s.at ≤ n
   pub memory : s.memory ≤ m
-  pub spent : Spent v m n a (seen s) d t
+  pub spent : Spent (plan_seen backward m v) m n (cursor_seen backward m n start).at (cursor_seen backward m n s) d t
 
 -- and what is left of the search from there gives the whole search's result
-pub record Looping (run : Run) (whole : Searched) (v : Plan) (m n a : ℕ) (seen : Cursor → Cursor) (s : Cursor) (d t : ℕ) : Type 0 where
-  pub keeps : Keeps v m n a seen s d t
-  pub rule : run (n + 1 - t) s d t ≡ whole
-
-pub loop_first : (run : Run) (v : Plan) (m n : ℕ) (seen : Cursor → Cursor) (s : Cursor) → s.at ≤ n → s.memory ≤ m
-    → (seen s).at ≤ n → (seen s).memory ≤ m → Looping run (run (n + 1) s 0 0) v m n (seen s).at seen s 0 0
-loop_first run v m n seen s within memory within' memory' =
-    record {
-      keeps = record { within = within; memory = memory; spent = spent_none v m n (seen s).at (seen s) refl within' memory' };
-      rule = rw sub-zero;
-    }
+pub record Looping (backward stepping : Bool) (has : ℕ → Bool) (v : Plan) (x h : Word) (start s : Cursor) (d t : ℕ) : Type 0 where
+  pub keeps : Keeps backward v x.size h.size start s d t
+  pub rule : searching backward (h.size + 1 - t) stepping has v x h start.at s d t ≡ searching backward (h.size + 1) stepping has v x h start.at start 0 0
 
 -- where the needle fits into the haystack at all, the comparisons do not wrap
-pub few_comparisons : {v : Plan} {m n a : ℕ} {seen : Cursor → Cursor} {s : Cursor} {d t : ℕ} → Keeps v m n a seen s d t → m ≤ n → 4 * n < 2 ^ 63
-    → d < 2 ^ 64
+pub few_comparisons : {backward : Bool} {v : Plan} {m n : ℕ} {start s : Cursor} {d t : ℕ} → Keeps backward v m n start s d t → m ≤ n → 4 * n < 2 ^ 63 → d < 2 ^ 64
 few_comparisons k short small = let p = k.spent in omega arith
 
 -- every test moved on
-pub few_tests : {v : Plan} {m n a : ℕ} {seen : Cursor → Cursor} {s : Cursor} {d t : ℕ} → Keeps v m n a seen s d t → t ≤ n
+few_tests : {backward : Bool} {v : Plan} {m n : ℕ} {start s : Cursor} {d t : ℕ} → Keeps backward v m n start s d t → t ≤ n
 few_tests k = let p = k.spent in omega arith
 
-module _ {run : Run} {whole : Searched} {v : Plan} {m n a : ℕ} {seen : Cursor → Cursor} {s : Cursor} {d t : ℕ}
-    (loop : Looping run whole v m n a seen s d t) where
-  pub loop_falls : n + 1 - (t + 1) < n + 1 - t
-  loop_falls = let few = few_tests loop.keeps in omega arith
+module _ {backward stepping : Bool} {has : ℕ → Bool} {v : Plan} {x h : Word} {start s : Cursor} {d t : ℕ}
+    (loop : Looping backward stepping has v x h start s d t) where
+  -- what a search comes to
+  abbrev whole : Searched
+  whole = searching backward (h.size + 1) stepping has v x h start.at start 0 0
 
-  rest : run (suc (n - t)) s d t ≡ whole
-  rest =
+  -- the rest of it, by how it goes on
+  rest : {r : Searched} → r ≡ searching backward (suc (h.size - t)) stepping has v x h start.at s d t → r ≡ whole
+  rest e =
       let few = few_tests loop.keeps in
-      let fuel : suc (n - t) ≡ n + 1 - t = omega arith in
-      rw fuel loop.rule
+      let fuel : suc (h.size - t) ≡ h.size + 1 - t = omega arith in
+      e ∙ rw fuel loop.rule
 
-  module _ {room passed : Bool} {w : Outcome} {place end : ℕ} (goes : Goes run room passed w place end s) where
-    pub loop_out : {r : Searched} → room ≡ false → r ≡ ended Stop.Out (record { at = end; memory = s.memory }) d t → r ≡ whole
-    loop_out e q = q ∙ sym (rw e at (goes.more (n - t) d t)) ∙ rest
+  pub loop_out : {at : ℕ} {r : Searched} → false ≡ has_room backward s.at x.size h.size → at ≡ far_end backward h.size
+      → r ≡ ended Stop.Out (record { at = at; memory = s.memory }) d t → r ≡ whole
+  loop_out no_room to q = rest (q ∙ rw to (sym (rw (← no_room) at (goes backward (h.size - t) stepping has v x h start.at s d t))))
 
-    pub loop_passed : {r : Searched} → room ≡ true → passed ≡ true → r ≡ ended Stop.Passed s d t → r ≡ whole
-    loop_passed e p q = q ∙ sym (rw (e, p) at (goes.more (n - t) d t)) ∙ rest
+  module _ (is_room : true ≡ has_room backward s.at x.size h.size) where
+    pub loop_passed : {r : Searched} → (stepping && not (eqb s.at start.at)) ≡ true → r ≡ ended Stop.Passed s d t → r ≡ whole
+    loop_passed p q = rest (q ∙ sym (rw (← is_room, p) at (goes backward (h.size - t) stepping has v x h start.at s d t)))
 
     -- a window, of which the code has u
-    module _ {u : Outcome} (made : u ≡ w) (is_room : room ≡ true) (not_passed : passed ≡ false) where
+    module _ {u : Outcome} (made : u ≡ window_of backward has v x h s) (not_passed : (stepping && not (eqb s.at start.at)) ≡ false) where
       stepped : cond u.matched
-          (ended (Stop.Hit place) u.next (d + u.comparisons) (t + 1))
-          (run (n - t) u.next (d + u.comparisons) (t + 1))
+          (ended (Stop.Hit (window_at backward s.at x.size)) u.next (d + u.comparisons) (t + 1))
+          (searching backward (h.size - t) stepping has v x h start.at u.next (d + u.comparisons) (t + 1))
           ≡ whole
-      stepped = sym (rw (is_room, not_passed, ← made) at (goes.more (n - t) d t)) ∙ rest
+      stepped = rest (sym (rw (← is_room, not_passed, ← made) at (goes backward (h.size - t) stepping has v x h start.at s d t)))
 
-      pub loop_hit : {r : Searched} → u.matched ≡ true → r ≡ ended (Stop.Hit place) u.next (d + u.comparisons) (t + 1) → r ≡ whole
-      loop_hit e q = q ∙ rw e at stepped
+      pub loop_hit : {r : Searched} {place : ℕ} → place ≡ window_at backward s.at x.size → u.matched ≡ true → r ≡ ended (Stop.Hit place) u.next (d + u.comparisons) (t + 1) → r ≡ whole
+      loop_hit at e q = q ∙ rw at (rw e at stepped)
 
-      pub loop_next : u.matched ≡ false → Keeps v m n a seen u.next (d + u.comparisons) (t + 1)
-          → Looping run whole v m n a seen u.next (d + u.comparisons) (t + 1)
+      pub loop_next : u.matched ≡ false → Keeps backward v x.size h.size start u.next (d + u.comparisons) (t + 1)
+          → Looping backward stepping has v x h start u.next (d + u.comparisons) (t + 1)
       loop_next e keeps =
-          let fuel : n + 1 - (t + 1) ≡ n - t = omega arith in
+          let fuel : h.size + 1 - (t + 1) ≡ h.size - t = omega arith in
           record { keeps = keeps; rule = rw fuel (rw e at stepped) }
 
--- the search forward
-pub forward_goes : (stepping : Bool) (has : ℕ → Bool) (v : Plan) (x h : Word) (old : ℕ) (s : Cursor)
-    → Goes (λ fuel. forward_search fuel stepping has v x h old)
-    (ltb (s.at + (x.size - 1)) h.size)
-    (stepping && not (eqb s.at old))
-    (forward_window has v x h s)
-    s.at
-    h.size
-    s
-unfolding forward_search
-forward_goes stepping has v x h old s = record { more = λ fuel d t. refl }
+-- ---- what a window keeps
 
-pub forward_keeps : (has : ℕ → Bool) (x h : Word) {v : Plan} {a : ℕ} {s : Cursor} {d t : ℕ} {u : Outcome} → Shape v x.size → s.at + x.size ≤ h.size
-    → Keeps v x.size h.size a (λ k. k) s d t → u ≡ forward_window has v x h s
-    → Keeps v x.size h.size a (λ k. k) u.next (d + u.comparisons) (t + 1)
-forward_keeps has x h {v} {a} {s} {d} {t} shape room k made =
-    let p = spent_window has v x h shape a s d t room k.spent in
+forward_keeps : (has : ℕ → Bool) (x h : Word) {v : Plan} {start s : Cursor} {d t : ℕ} {u : Outcome} → Shape v x.size → s.at + x.size ≤ h.size
+    → Keeps false v x.size h.size start s d t → u ≡ forward_window has v x h s
+    → Keeps false v x.size h.size start u.next (d + u.comparisons) (t + 1)
+forward_keeps has x h {v} {start} {s} {d} {t} shape room k made =
+    let p = spent_window has v x h shape start.at s d t room k.spent in
     rw made (record { within = p.within; memory = p.memory_fits; spent = p })
 
--- a match lies inside the haystack
-pub hit_inside : (fuel : ℕ) (stepping : Bool) (has : ℕ → Bool) (v : Plan) (x h : Word) (old : ℕ) (s : Cursor) (d t k : ℕ) → 0 < x.size
+-- the mirror's cursor is the mirrored one
+mirrored_is : (m n : ℕ) (s s' : Cursor) → MirroredCursor m n s s' → s' ≡ mirrored_cursor m n s
+mirrored_is m n s s' t =
+    let place : s'.at ≡ n - s.at = omega arith in
+    let memories : s'.memory ≡ m - s.memory = omega arith in
+    rw (← place, ← memories)
+
+mirrored_room : (at m n : ℕ) → m ≤ at → at ≤ n → n - at + m ≤ n
+mirrored_room at m n a b = omega arith
+
+backward_keeps : (has : ℕ → Bool) (x h : Word) {v : Plan} {start s : Cursor} {d t : ℕ} {u : Outcome} → BackShape v x.size → Shape (mirrored_plan x.size v) x.size → x.size ≤ s.at
+    → Keeps true v x.size h.size start s d t → u ≡ backward_window has v x h s
+    → Keeps true v x.size h.size start u.next (d + u.comparisons) (t + 1)
+backward_keeps has x h {v} {start} {s} {d} {t} {u} fits shape room k made =
+    let m = x.size in
+    let n = h.size in
+    let s' = mirrored_cursor m n s in
+    let w' = forward_window has (mirrored_plan m v) (mirror x) (mirror h) s' in
+    let same : MirroredOutcome m n (backward_window has v x h s) w' =
+    window_mirrored has v x h s s' fits (mirrored_cursor_is m n s k.within k.memory) (omega arith) room in
+    let spent = spent_window has (mirrored_plan m v) (mirror x) (mirror h) shape (n - start.at) s' d t (mirrored_room s.at m n room k.within) k.spent in
+    rw made
+    (record {
+      within = omega arith;
+      memory = omega arith;
+      spent = rw (same.counts, ← mirrored_is m n (backward_window has v x h s).next w'.next same.nexts) spent;
+    })
+
+pub window_keeps : (backward : Bool) (has : ℕ → Bool) (x h : Word) {v : Plan} {start s : Cursor} {d t : ℕ} {u : Outcome}
+    → Start backward x.size h.size v start → Room backward s.at x.size h.size
+    → Keeps backward v x.size h.size start s d t → u ≡ window_of backward has v x h s
+    → Keeps backward v x.size h.size start u.next (d + u.comparisons) (t + 1)
+window_keeps true has x h asked room k made = backward_keeps has x h asked.back asked.shape room k made
+window_keeps false has x h asked room k made = forward_keeps has x h asked.shape room k made
+
+-- a needle that has room is no longer than the haystack
+pub room_inside : (backward : Bool) (at m n : ℕ) → at ≤ n → Room backward at m n → m ≤ n
+room_inside true at m n within room = omega arith
+room_inside false at m n within room = omega arith
+
+-- ---- how a search ends: a match lies inside the haystack
+
+hit_forward : (fuel : ℕ) (stepping : Bool) (has : ℕ → Bool) (v : Plan) (x h : Word) (old : ℕ) (s : Cursor) (d t k : ℕ) → 0 < x.size
     → (forward_search fuel stepping has v x h old s d t).stop ≡ Stop.Hit k → k + x.size ≤ h.size
 unfolding forward_search
-hit_inside zero stepping has v x h old s d t k some e = let z : ◌≡◌ {A = ℕ} 0 1 = cc in absurd (omega arith)
-hit_inside (suc more) stepping has v x h old s d t k some e =
+hit_forward zero stepping has v x h old s d t k some e = let z : ◌≡◌ {A = ℕ} 0 1 = cc in absurd (omega arith)
+hit_forward (suc more) stepping has v x h old s d t k some e =
     let w = forward_window has v x h s in
-    go (ltb (s.at + (x.size - 1)) h.size) refl (stepping && not (eqb s.at old)) w.matched (hit_inside more stepping has v x h old w.next (d + w.comparisons) (t + 1) k some) e
+    go (ltb (s.at + (x.size - 1)) h.size) refl (stepping && not (eqb s.at old)) w.matched (hit_forward more stepping has v x h old w.next (d + w.comparisons) (t + 1) k some) e
   where
     w : Outcome
     w = forward_window has v x h s
@@ -141,13 +175,28 @@ hit_inside (suc more) stepping has v x h old s d t k some e =
         (ended Stop.Out (moved_to h.size s) d t)).stop
         ≡ Stop.Hit k
         → k + x.size ≤ h.size
-    go false room b c later e = let z : ◌≡◌ {A = ℕ} 0 1 = cc in absurd (omega arith)
-    go true room true c later e = let z : ◌≡◌ {A = ℕ} 0 1 = cc in absurd (omega arith)
+    go false room b c later e = cc
+    go true room true c later e = cc
     go true room false true later e = let same : k ≡ s.at = cc in omega (arith, ltb-true)
     go true room false false later e = later e
 
+mirrored_hit : (m n k : ℕ) (p' : Stop) → MirroredStop m n (Stop.Hit k) p' → k + m ≤ n
+mirrored_hit m n k p' (MirroredStop.hit q) = omega arith
+
+-- by the mirror
+hit_backward : (stepping : Bool) (has : ℕ → Bool) (v : Plan) (x h : Word) (s : Cursor) (k : ℕ) → Start true x.size h.size v s
+    → (backward_search (h.size + 1) stepping has v x h s.at s 0 0).stop ≡ Stop.Hit k → k + x.size ≤ h.size
+hit_backward stepping has v x h s k asked e =
+    let there = search_mirrored stepping has v x h s.at (h.size - s.at) asked.back (omega arith) (omega arith) asked.needle (omega arith) (h.size + 1) s (mirrored_cursor x.size h.size s) 0 0 (mirrored_cursor_is x.size h.size s asked.within asked.memory) in
+    mirrored_hit x.size h.size k _ (rw e at there.stops)
+
 -- so its end does not wrap
-pub stop_fits : (m n : ℕ) (p : Stop) → ((k : ℕ) → p ≡ Stop.Hit k → k + m ≤ n) → n < 2 ^ 63 → StopFits m p
+stop_fits : (m n : ℕ) (p : Stop) → ((k : ℕ) → p ≡ Stop.Hit k → k + m ≤ n) → n < 2 ^ 63 → StopFits m p
 stop_fits m n (Stop.Hit k) inside small = let e = inside k refl in omega arith
 stop_fits m n Stop.Passed inside small = tt
 stop_fits m n Stop.Out inside small = tt
+
+pub search_stop : (backward stepping : Bool) (has : ℕ → Bool) (v : Plan) (x h : Word) (s : Cursor) → Start backward x.size h.size v s
+    → StopFits x.size (searching backward (h.size + 1) stepping has v x h s.at s 0 0).stop
+search_stop true stepping has v x h s asked = stop_fits x.size h.size _ (λ k. hit_backward stepping has v x h s k asked) (omega arith)
+search_stop false stepping has v x h s asked = stop_fits x.size h.size _ (λ k. hit_forward (h.size + 1) stepping has v x h s.at s 0 0 k (omega arith)) (omega arith)

@@ -1,9 +1,9 @@
 -- A walk taken on in one direction, by a step or to the next match: 01's "One forward step" and "One backward step" on the record, and 02's [1], with the checks and the counts.
 -- Assumes nothing.
-use Rattle.std.specs.Prelude.{ℕ, ◌+◌, ◌-◌, Bool, cond, ◌&&◌, List, length, ◌==◌}
+use Rattle.std.specs.Prelude.{ℕ, ◌+◌, ◌-◌, Bool, cond, ◌&&◌, List, length, ◌==◌, Result, Ok, Err}
 use Rattle.words.specs.Word.{front}
-use Rattle.limits.specs.Checks.{lengths, refuse_if, and_then}
-use Rattle.limits.specs.declared.Check.{Check}
+use Rattle.limits.specs.Checks.{Check, lengths, refuse_if, and_then}
+use Rattle.limits.specs.declared.Refusal.{Refusal}
 use Rattle.limits.specs.declared.Refusal.TheVariants.{StepOverlapping}
 use Rattle.byteset.specs.Fingerprint.{has}
 use Rattle.windows.specs.declared.Stop.{Stop}
@@ -36,7 +36,7 @@ abbrev pub walking : ℕ → ℕ → Counts
 walking comparisons tests = record { preparing = 0; comparisons = comparisons; tests = tests }
 
 -- a call that costs nothing, and the walk as it then stands
-abbrev pub free : Ending → Moving → Walked
+abbrev pub free : Result Ending Refusal → Moving → Walked
 free ending s = record { ending = ending; moving = s; counts = walking 0 0 }
 
 -- how a search ends, with both ends of a match: "Match(a, a+m)"
@@ -57,16 +57,16 @@ backward stepping needle haystack f s =
 -- what a search is to the call that made it
 abbrev pub walked_forward : ℕ → Moving → Searched → Walked
 walked_forward m s r =
-    record { ending = ending_of m r.stop; moving = moved_forward s r.cursor; counts = walking r.comparisons r.tests }
+    record { ending = Ok (ending_of m r.stop); moving = moved_forward s r.cursor; counts = walking r.comparisons r.tests }
 
 abbrev pub walked_backward : ℕ → Moving → Searched → Walked
 walked_backward m s r =
-    record { ending = ending_of m r.stop; moving = moved_backward s r.cursor; counts = walking r.comparisons r.tests }
+    record { ending = Ok (ending_of m r.stop); moving = moved_backward s r.cursor; counts = walking r.comparisons r.tests }
 
 -- "A call that takes a state hands back that same state on a refusal", counts 0
 abbrev pub or_walked : Check → Moving → Walked → Walked
-or_walked Check.Pass s otherwise = otherwise
-or_walked (Check.Refuse why) s otherwise = free (Ending.Refused why) s
+or_walked (Ok passed) s otherwise = otherwise
+or_walked (Err why) s otherwise = free (Err why) s
 
 -- ---- a two way walk
 
@@ -74,13 +74,13 @@ or_walked (Check.Refuse why) s otherwise = free (Ending.Refused why) s
 abbrev pub two_way_forward : Bool → List ℕ → List ℕ → Fixed → Moving → Walked
 two_way_forward stepping needle haystack f s =
     let went = walked_forward (length needle) s (forward stepping needle haystack f s) in
-    cond (stepping && s.position == length haystack) (free Ending.Done s) went
+    cond (stepping && s.position == length haystack) (free (Ok Ending.Done) s) went
 
 -- "Done if `end` is 0."
 abbrev pub two_way_backward : Bool → List ℕ → List ℕ → Fixed → Moving → Walked
 two_way_backward stepping needle haystack f s =
     let went = walked_backward (length needle) s (backward stepping needle haystack f s) in
-    cond (stepping && s.end == 0) (free Ending.Done s) went
+    cond (stepping && s.end == 0) (free (Ok Ending.Done) s) went
 
 -- ---- an empty walk
 
@@ -95,13 +95,13 @@ abbrev pub empty_forward : Bool → ℕ → Moving → Flags → Walked
 empty_forward stepping n s flags =
     let r = turned stepping (record { ahead = n - s.position; is_match = flags.is_match_fw }) in
     let at = n - r.side.ahead in
-    free (turn_ending r.gives at) (record { position = at; end = s.end; memory = s.memory; kind = Empty r.side.is_match flags.is_match_bw })
+    free (Ok (turn_ending r.gives at)) (record { position = at; end = s.end; memory = s.memory; kind = Empty r.side.is_match flags.is_match_bw })
 
 abbrev pub empty_backward : Bool → Moving → Flags → Walked
 empty_backward stepping s flags =
     let r = turned stepping (record { ahead = s.end; is_match = flags.is_match_bw }) in
     let at = r.side.ahead in
-    free (turn_ending r.gives at) (record { position = s.position; end = at; memory = s.memory; kind = Empty flags.is_match_fw r.side.is_match })
+    free (Ok (turn_ending r.gives at)) (record { position = s.position; end = at; memory = s.memory; kind = Empty flags.is_match_fw r.side.is_match })
 
 -- ---- the calls, by the kind of the walk
 

@@ -16,7 +16,8 @@ pub(crate) fn letter(word: &[u8], i: usize) -> u8
 // The first needle index from `from` on, and below `to`, at which they differ; `to` if there is none.
 pub(crate) fn first_up(haystack: &[u8], needle: &[u8], at: usize, from: usize, to: usize) -> usize
     requires { (from ≤ to) × (to ≤ length needle.now) × (at + length needle.now ≤ length haystack.now) }
-    ensures { result ≡ first_up (front needle.now) (front haystack.now) at from to }
+    ensures rule { result ≡ first_up (front needle.now) (front haystack.now) at from to }
+    ensures on { from ≤ result }
 {
     let mut i = from;
     while i < to {

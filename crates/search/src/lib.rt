@@ -6,18 +6,18 @@ mod run;
 mod turns;
 mod window;
 
-ghost use Rattle.std.specs.Prelude.{◌≡◌, ◌&&◌, nat_eq};
-ghost use Rattle.search.specs.Calls.{step_check, refusal, free, ending_of, two_way_forward, two_way_backward, forward_call, backward_call};
-ghost use Rattle.search.specs.Code.{StopFits, TwoWayStart};
+ghost use Rattle.std.specs.Prelude.{◌≡◌};
+ghost use Rattle.search.specs.Calls.{step_check, refusal, free, ending_of, forward_call, backward_call};
+ghost use Rattle.search.specs.Code.{StopFits, TwoWayStart, two_way, call};
 
-use limits::{Check, Refusal};
+use limits::Refusal;
 use record::{Counts, Fixed, Mode, Moving};
 use windows::Stop;
 
-// What a call comes to: it is refused, a step finds nothing left, a match, a part passed without one, or no room for a further window.
+// What a call that is not refused comes to: a step finds nothing left, a match, a part passed without one, or no room for a further
+// window.
 #[derive(Clone, Copy)]
 pub enum Ending {
-    Refused(Refusal),
     Done,
     Match(usize, usize),
     Passed,
@@ -27,47 +27,41 @@ pub enum Ending {
 // What a call found, where the walk stands after it, and what it cost.
 #[derive(Clone, Copy)]
 pub struct Walked {
-    pub ending: Ending,
+    pub ending: Result<Ending, Refusal>,
     pub moving: Moving,
     pub counts: Counts,
 }
 
 // Check 5: a step covers the haystack part by part, which matches that overlap do not.
-fn check_step(stepping: bool, mode: Mode) -> Check
+fn check_step(stepping: bool, mode: Mode) -> Result<(), Refusal>
     ensures { result ≡ step_check stepping mode }
 {
-    if stepping {
-        if record::overlaps(mode) {
-            return Check::Refuse(Refusal::StepOverlapping);
-        }
+    if stepping && record::overlaps(mode) {
+        return Err(Refusal::StepOverlapping);
     }
-    Check::Pass
+    Ok(())
 }
 
 // Checks 1, 2, 4 and 5: the first that refuses the call, if one does.
-fn check(haystack: &[u8], needle: &[u8], fixed: Fixed, moving: Moving, stepping: bool) -> Check
+#[tactic(auto, unfolding(crate::specs::Calls::refusal, record::specs::Fits::fitting))]
+fn check(
+    haystack: &[u8],
+    needle: &[u8],
+    fixed: Fixed,
+    moving: Moving,
+    stepping: bool,
+) -> Result<(), Refusal>
     ensures { result ≡ refusal stepping needle.now haystack.now fixed moving }
 {
-    let lengths = limits::check_lengths(haystack.len(), needle.len());
-    if let Check::Refuse(why) = lengths {
-        return Check::Refuse(why);
+    limits::check_lengths(haystack.len(), needle.len())?;
+    if !record::fits(haystack, needle, fixed, moving) {
+        return Err(Refusal::StateDoesNotFit);
     }
-    if record::fits(haystack, needle, fixed, moving) {
-        let mode = fixed.mode;
-        return check_step(stepping, mode);
-    }
-    Check::Refuse(Refusal::StateDoesNotFit)
-}
-
-// Whether a step finds nothing left: the walk stands at the end that it goes to.
-fn is_done(stepping: bool, at: usize, end: usize) -> bool
-    ensures { result ≡ (stepping && nat_eq at «end») }
-{
-    if stepping { at == end } else { false }
+    check_step(stepping, fixed.mode)
 }
 
 // A call that costs nothing, and the walk as it then stands.
-pub(crate) fn free(ending: Ending, moving: Moving) -> Walked
+pub(crate) fn free(ending: Result<Ending, Refusal>, moving: Moving) -> Walked
     ensures { result ≡ free ending moving }
 {
     Walked {
@@ -92,8 +86,8 @@ fn ending_of(m: usize, stop: Stop) -> Ending
     }
 }
 
-// A two way walk taken on forward. The numbers are taken out of the record once, and put back once.
-fn two_way_forward(
+// A two way walk taken on. The numbers are taken out of the record once, and put back once.
+fn two_way<const BACKWARD: bool>(
     haystack: &[u8],
     needle: &[u8],
     fixed: Fixed,
@@ -101,20 +95,19 @@ fn two_way_forward(
     stepping: bool,
 ) -> Walked
     requires { TwoWayStart needle.now haystack.now fixed moving }
-    ensures { result ≡ two_way_forward stepping needle.now haystack.now fixed moving }
+    ensures { result ≡ two_way BACKWARD stepping needle.now haystack.now fixed moving }
 {
-    if is_done(stepping, moving.position, haystack.len()) {
-        return free(Ending::Done, moving);
+    let m = needle.len();
+    let start = record::cursor::<BACKWARD>(m, moving);
+    let end = run::far_end::<BACKWARD>(haystack.len());
+    if stepping && start.at == end {
+        return free(Ok(Ending::Done), moving);
     }
-    let memory = moving.memory;
-    let v = record::forward_plan(needle.len(), fixed, memory);
-    let start = record::forward_cursor(moving);
-    let r = run::forward_search(haystack, needle, fixed.byteset, v, start, stepping);
-    let stop = r.stop;
-    let cursor = r.cursor;
+    let v = record::plan::<BACKWARD>(m, fixed, moving.memory);
+    let r = run::search::<BACKWARD>(haystack, needle, fixed.byteset, v, start, stepping);
     Walked {
-        ending: ending_of(needle.len(), stop),
-        moving: record::moved_forward(moving, cursor),
+        ending: Ok(ending_of(m, r.stop)),
+        moving: record::moved::<BACKWARD>(moving, r.cursor),
         counts: Counts {
             preparing: 0,
             comparisons: r.comparisons,
@@ -123,38 +116,26 @@ fn two_way_forward(
     }
 }
 
-// The same backward.
-fn two_way_backward(
+// A walk taken on in a direction, by one step (`stepping`) or to the next match.
+fn walk<const BACKWARD: bool>(
     haystack: &[u8],
     needle: &[u8],
     fixed: Fixed,
     moving: Moving,
     stepping: bool,
 ) -> Walked
-    requires { TwoWayStart needle.now haystack.now fixed moving }
-    ensures { result ≡ two_way_backward stepping needle.now haystack.now fixed moving }
+    ensures { result ≡ call BACKWARD stepping needle.now haystack.now fixed moving }
 {
-    if is_done(stepping, moving.end, 0) {
-        return free(Ending::Done, moving);
+    if let Err(why) = check(haystack, needle, fixed, moving, stepping) {
+        return free(Err(why), moving);
     }
-    let memory = moving.memory;
-    let v = record::backward_plan(needle.len(), fixed, memory);
-    let start = record::backward_cursor(needle.len(), moving);
-    let r = run::backward_search(haystack, needle, fixed.byteset, v, start, stepping);
-    let stop = r.stop;
-    let cursor = r.cursor;
-    Walked {
-        ending: ending_of(needle.len(), stop),
-        moving: record::moved_backward(moving, cursor),
-        counts: Counts {
-            preparing: 0,
-            comparisons: r.comparisons,
-            tests: r.tests,
-        },
+    let flags = record::flags_of(moving.kind);
+    if flags.empty {
+        return turns::turn::<BACKWARD>(haystack.len(), moving, flags, stepping);
     }
+    two_way::<BACKWARD>(haystack, needle, fixed, moving, stepping)
 }
 
-// A walk taken on forward, by one step (`stepping`) or to the next match.
 pub fn forward(
     haystack: &[u8],
     needle: &[u8],
@@ -164,19 +145,9 @@ pub fn forward(
 ) -> Walked
     ensures { result ≡ forward_call stepping needle.now haystack.now fixed moving }
 {
-    let check = check(haystack, needle, fixed, moving, stepping);
-    if let Check::Refuse(why) = check {
-        return free(Ending::Refused(why), moving);
-    }
-    let kind = moving.kind;
-    let flags = record::flags_of(kind);
-    if flags.empty {
-        return turns::forward(haystack.len(), moving, flags, stepping);
-    }
-    two_way_forward(haystack, needle, fixed, moving, stepping)
+    walk::<false>(haystack, needle, fixed, moving, stepping)
 }
 
-// The same backward.
 pub fn backward(
     haystack: &[u8],
     needle: &[u8],
@@ -186,14 +157,5 @@ pub fn backward(
 ) -> Walked
     ensures { result ≡ backward_call stepping needle.now haystack.now fixed moving }
 {
-    let check = check(haystack, needle, fixed, moving, stepping);
-    if let Check::Refuse(why) = check {
-        return free(Ending::Refused(why), moving);
-    }
-    let kind = moving.kind;
-    let flags = record::flags_of(kind);
-    if flags.empty {
-        return turns::backward(moving, flags, stepping);
-    }
-    two_way_backward(haystack, needle, fixed, moving, stepping)
+    walk::<true>(haystack, needle, fixed, moving, stepping)
 }

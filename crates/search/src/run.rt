@@ -1,8 +1,9 @@
 // Windows until there is an answer: a match, a part passed without one (where a step asks for that), or no room for a further window.
-ghost use Rattle.std.specs.Prelude.{◌≡◌, length};
-ghost use Rattle.search.specs.Code.{forward_from, backward_from, ForwardStart, BackwardStart};
+// Each function here serves both directions.
+ghost use Rattle.std.specs.Prelude.{◌≡◌, ◌*◌, ◌^◌, ◌<◌, ◌≤◌, length, IsTrue};
+ghost use Rattle.search.specs.Code.{searched_from, has_room, window_at, far_end, Room, Start};
 
-use crate::window;
+use crate::window::window;
 use windows::{Cursor, Plan, Searched, Stop};
 
 fn ended(stop: Stop, cursor: Cursor, comparisons: usize, tests: usize) -> Searched
@@ -16,43 +17,38 @@ fn ended(stop: Stop, cursor: Cursor, comparisons: usize, tests: usize) -> Search
     }
 }
 
-pub(crate) fn forward_search(
-    haystack: &[u8],
-    needle: &[u8],
-    set: u64,
-    v: Plan,
-    start: Cursor,
-    stepping: bool,
-) -> Searched
-    requires { ForwardStart (length needle.now) (length haystack.now) v start }
-    ensures { result ≡ forward_from stepping set v needle.now haystack.now start }
+// Whether there is room for a window. Backward its start wraps where there is none, and is then past any haystack.
+fn has_room<const BACKWARD: bool>(at: usize, m: usize, n: usize) -> bool
+    requires some { 0 < m }
+    requires small { m < 2 ^ 63 }
+    requires within { at ≤ n }
+    requires haystack { 4 * n < 2 ^ 63 }
+    ensures rule { result ≡ has_room BACKWARD at m n }
+    ensures room { IsTrue result → Room BACKWARD at m n }
 {
-    let n = haystack.len();
-    let reach = needle.len() - 1;
-    let mut s = start;
-    let mut comparisons: usize = 0;
-    let mut tests: usize = 0;
-    while s.at + reach < n {
-        if stepping && s.at != start.at {
-            return ended(Stop::Passed, s, comparisons, tests);
-        }
-        let at = s.at;
-        let w = window::forward_window(haystack, needle, set, v, s);
-        comparisons += w.comparisons;
-        tests += 1;
-        s = w.next;
-        if w.matched {
-            return ended(Stop::Hit(at), s, comparisons, tests);
-        }
+    if BACKWARD {
+        at.wrapping_sub(m) < n
+    } else {
+        at + (m - 1) < n
     }
-    let end = Cursor {
-        at: n,
-        memory: s.memory,
-    };
-    ended(Stop::Out, end, comparisons, tests)
 }
 
-pub(crate) fn backward_search(
+// Where the window starts, which has room.
+fn window_at<const BACKWARD: bool>(at: usize, m: usize, n: usize) -> usize
+    requires { Room BACKWARD at m n }
+    ensures { result ≡ window_at BACKWARD at m }
+{
+    if BACKWARD { at - m } else { at }
+}
+
+// The end of the haystack that a walk goes to.
+pub(crate) fn far_end<const BACKWARD: bool>(n: usize) -> usize
+    ensures { result ≡ far_end BACKWARD n }
+{
+    if BACKWARD { 0 } else { n }
+}
+
+pub(crate) fn search<const BACKWARD: bool>(
     haystack: &[u8],
     needle: &[u8],
     set: u64,
@@ -60,30 +56,29 @@ pub(crate) fn backward_search(
     start: Cursor,
     stepping: bool,
 ) -> Searched
-    requires { BackwardStart (length needle.now) (length haystack.now) v start }
-    ensures { result ≡ backward_from stepping set v needle.now haystack.now start }
+    requires { Start BACKWARD (length needle.now) (length haystack.now) v start }
+    ensures { result ≡ searched_from BACKWARD stepping set v needle.now haystack.now start }
 {
     let n = haystack.len();
     let m = needle.len();
     let mut s = start;
     let mut comparisons: usize = 0;
     let mut tests: usize = 0;
-    // The start wraps where there is no room, and is then past any haystack.
-    while std::num::wrapping_sub_usize(s.at, m) < n {
+    while has_room::<BACKWARD>(s.at, m, n) {
         if stepping && s.at != start.at {
             return ended(Stop::Passed, s, comparisons, tests);
         }
-        let first = s.at - m;
-        let w = window::backward_window(haystack, needle, set, v, s);
+        let place = window_at::<BACKWARD>(s.at, m, n);
+        let w = window::<BACKWARD>(haystack, needle, set, v, s);
         comparisons += w.comparisons;
         tests += 1;
         s = w.next;
         if w.matched {
-            return ended(Stop::Hit(first), s, comparisons, tests);
+            return ended(Stop::Hit(place), s, comparisons, tests);
         }
     }
     let end = Cursor {
-        at: 0,
+        at: far_end::<BACKWARD>(n),
         memory: s.memory,
     };
     ended(Stop::Out, end, comparisons, tests)

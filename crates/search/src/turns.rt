@@ -1,6 +1,7 @@
 // An empty walk taken on: one of its sides is turned, and the other direction's cursor and flag stay. It costs nothing.
 ghost use Rattle.std.specs.Prelude.{◌≡◌, ◌≤◌};
-ghost use Rattle.search.specs.Calls.{turn_ending, empty_forward, empty_backward};
+ghost use Rattle.search.specs.Calls.{turn_ending};
+ghost use Rattle.search.specs.Code.{empty_way};
 
 use crate::{Ending, Walked, free};
 use empty::{Gives, Side};
@@ -17,51 +18,57 @@ fn ending_of(gives: Gives, at: usize) -> Ending
     }
 }
 
-// Forward: the bytes ahead are those from `position` on.
-pub(crate) fn forward(n: usize, moving: Moving, flags: Flags, stepping: bool) -> Walked
+// Forward the bytes ahead are those from `position` on, backward those before `end`.
+#[tactic(auto, using(empty::proofs::Laws::turned_ahead))]
+pub(crate) fn turn<const BACKWARD: bool>(
+    n: usize,
+    moving: Moving,
+    flags: Flags,
+    stepping: bool,
+) -> Walked
     requires { moving.position ≤ n }
-    ensures { result ≡ empty_forward stepping n moving flags }
+    ensures { result ≡ empty_way BACKWARD stepping n moving flags }
 {
-    let side = Side {
-        ahead: n - moving.position,
-        is_match: flags.is_match_fw,
+    let side = if BACKWARD {
+        Side {
+            ahead: moving.end,
+            is_match: flags.is_match_bw,
+        }
+    } else {
+        Side {
+            ahead: n - moving.position,
+            is_match: flags.is_match_fw,
+        }
     };
     let r = empty::turn(side, stepping);
-    let gives = r.gives;
-    let position = n - r.side.ahead;
-    let memory = moving.memory;
-    let moved = Moving {
-        position,
-        end: moving.end,
-        memory,
-        kind: Kind::Empty {
-            is_match_fw: r.side.is_match,
-            is_match_bw: flags.is_match_bw,
-        },
-    };
-    free(ending_of(gives, position), moved)
-}
-
-// Backward: they are those before `end`.
-pub(crate) fn backward(moving: Moving, flags: Flags, stepping: bool) -> Walked
-    ensures { result ≡ empty_backward stepping moving flags }
-{
-    let side = Side {
-        ahead: moving.end,
-        is_match: flags.is_match_bw,
-    };
-    let r = empty::turn(side, stepping);
-    let gives = r.gives;
-    let end = r.side.ahead;
-    let memory = moving.memory;
-    let moved = Moving {
-        position: moving.position,
-        end,
-        memory,
-        kind: Kind::Empty {
+    let is_match = r.side.is_match;
+    if BACKWARD {
+        let end = r.side.ahead;
+        let kind = Kind::Empty {
             is_match_fw: flags.is_match_fw,
-            is_match_bw: r.side.is_match,
-        },
-    };
-    free(ending_of(gives, end), moved)
+            is_match_bw: is_match,
+        };
+        free(
+            Ok(ending_of(r.gives, end)),
+            Moving {
+                end,
+                kind,
+                ..moving
+            },
+        )
+    } else {
+        let position = n - r.side.ahead;
+        let kind = Kind::Empty {
+            is_match_fw: is_match,
+            is_match_bw: flags.is_match_bw,
+        };
+        free(
+            Ok(ending_of(r.gives, position)),
+            Moving {
+                position,
+                kind,
+                ..moving
+            },
+        )
+    }
 }

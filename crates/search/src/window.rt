@@ -1,9 +1,9 @@
 // One window of a walk, on numbers.
-ghost use Rattle.std.specs.Prelude.{◌≡◌, ◌<◌, length};
+ghost use Rattle.std.specs.Prelude.{◌≡◌, ◌<◌, true, false, length};
 ghost use Rattle.words.specs.Word.{front};
 ghost use Rattle.byteset.specs.Fingerprint.{has};
 ghost use Rattle.windows.specs.Window.{outcome, forward_window, backward_window};
-ghost use Rattle.search.specs.Code.{Forward, Backward};
+ghost use Rattle.search.specs.Code.{window_of, Opens};
 
 use crate::letters;
 use windows::{Cursor, Outcome, Plan};
@@ -26,21 +26,16 @@ fn comes_to(matched: bool, at: usize, memory: usize, comparisons: usize) -> Outc
     }
 }
 
-pub(crate) fn forward_window(
-    haystack: &[u8],
-    needle: &[u8],
-    set: u64,
-    v: Plan,
-    s: Cursor,
-) -> Outcome
-    requires { Forward (length needle.now) (length haystack.now) v s }
+#[tactic(auto, unfolding(windows::specs::Window::forward_window))]
+fn forward_window(haystack: &[u8], needle: &[u8], set: u64, v: Plan, s: Cursor) -> Outcome
+    requires { Opens false (length needle.now) (length haystack.now) v s }
     ensures { result ≡ forward_window (has set) v (front needle.now) (front haystack.now) s }
 {
     let m = needle.len();
     if !may_have(set, haystack, s.at + (m - 1)) {
         return comes_to(false, s.at + m, 0, 0);
     }
-    let from = number::larger(v.split, s.memory);
+    let from = v.split.max(s.memory);
     let i = letters::first_up(haystack, needle, s.at, from, m);
     if i < m {
         return comes_to(false, s.at + (i - v.split + 1), 0, i + 1 - from);
@@ -58,14 +53,9 @@ pub(crate) fn forward_window(
     comes_to(true, s.at + v.shift, v.shift_memory, m - from + low)
 }
 
-pub(crate) fn backward_window(
-    haystack: &[u8],
-    needle: &[u8],
-    set: u64,
-    v: Plan,
-    s: Cursor,
-) -> Outcome
-    requires { Backward (length needle.now) (length haystack.now) v s }
+#[tactic(auto, unfolding(windows::specs::Window::backward_window))]
+fn backward_window(haystack: &[u8], needle: &[u8], set: u64, v: Plan, s: Cursor) -> Outcome
+    requires { Opens true (length needle.now) (length haystack.now) v s }
     ensures { result ≡ backward_window (has set) v (front needle.now) (front haystack.now) s }
 {
     let m = needle.len();
@@ -73,7 +63,7 @@ pub(crate) fn backward_window(
     if !may_have(set, haystack, first) {
         return comes_to(false, first, m, 0);
     }
-    let upto = number::smaller(v.split, s.memory);
+    let upto = v.split.min(s.memory);
     let agreed = letters::agree_down(haystack, needle, first, upto, 0);
     if agreed < upto {
         return comes_to(
@@ -83,7 +73,7 @@ pub(crate) fn backward_window(
             agreed + 1,
         );
     }
-    let high = number::larger(v.split, s.memory);
+    let high = v.split.max(s.memory);
     let j = letters::first_up(haystack, needle, first, v.split, high);
     if j < high {
         return comes_to(
@@ -99,4 +89,22 @@ pub(crate) fn backward_window(
         v.shift_memory,
         upto + (high - v.split),
     )
+}
+
+// The window of a walk in a direction. The two are mirror images, and no twins.
+pub(crate) fn window<const BACKWARD: bool>(
+    haystack: &[u8],
+    needle: &[u8],
+    set: u64,
+    v: Plan,
+    s: Cursor,
+) -> Outcome
+    requires { Opens BACKWARD (length needle.now) (length haystack.now) v s }
+    ensures { result ≡ window_of BACKWARD (has set) v (front needle.now) (front haystack.now) s }
+{
+    if BACKWARD {
+        backward_window(haystack, needle, set, v, s)
+    } else {
+        forward_window(haystack, needle, set, v, s)
+    }
 }

@@ -15,8 +15,8 @@ overflow_add-at c = omega arith
 pub letter-requires-in-loop-i : goal.letter-requires-in-loop-i
 letter-requires-in-loop-i c = omega arith
 
-pub returns-then-letter : goal.returns-then-letter
-returns-then-letter c =
+pub returns-then-letter-clause-rule : goal.returns-then-letter-clause-rule
+returns-then-letter-clause-rule c =
     let loop = c.loop-i in
     let a = c.args in
     up_hit (front a.needle.now) (front a.haystack.now) a.at a.from a.to loop.i (omega arith) (omega arith) loop.invariant.2
@@ -38,8 +38,8 @@ loop-i-preserved c =
           (read_same (front a.needle.now) (front a.haystack.now) a.at c.letter.ensures c.letter-in-loop-i.ensures c.if-letter.false),
     )
 
-pub returns : goal.returns
-returns c =
+pub returns-clause-rule : goal.returns-clause-rule
+returns-clause-rule c =
     let loop = c.loop-i in
     let a = c.args in
     up_none (front a.needle.now) (front a.haystack.now) a.at a.from a.to loop.i (omega arith) (omega arith) (omega arith) loop.invariant.2
