@@ -28,7 +28,7 @@ use Rattle.search.specs.declared.Walked.{Walked}
 use Rattle.prepare.specs.Prepare.{five_steps, empty_walk, or_parts, prepare_rule}
 use Rattle.prepare.proofs.Ready.{prepared_ready}
 use Rattle.search.specs.Calls.{refusal, free, ending_of, forward, backward, forward_call, backward_call}
-use Rattle.search.proofs.Calls.{Passed, refusal_passed, forward_refused, backward_refused}
+use Rattle.search.proofs.Calls.{Passed, passed, refused as call_refused}
 use Rattle.searcher.specs.declared.TwoWaySearcher.{TwoWaySearcher}
 use Rattle.searcher.specs.Walk.{new_rule, step_answer, match_answer}
 use Rattle.demands.specs.Allowed.{Allowed}
@@ -98,10 +98,10 @@ module _ (needle haystack : List ℕ) (ok : Allowed needle haystack) (f : Fixed)
     last_check = passes needle haystack ok f s fit true ∙ rw may
 
     pub step_refused : forward_call true needle haystack f s ≡ free (Err StepOverlapping) s
-    step_refused = sym (forward_refused needle haystack f s true refl last_check refl)
+    step_refused = sym (call_refused needle haystack f s false true (sym last_check) refl)
 
     pub step_back_refused : backward_call true needle haystack f s ≡ free (Err StepOverlapping) s
-    step_back_refused = sym (backward_refused needle haystack f s true refl last_check refl)
+    step_back_refused = sym (call_refused needle haystack f s true true (sym last_check) refl)
 
 -- no call is refused but such a step, and the state that it hands back fits
 pub fits_stays : (needle haystack : List ℕ) → Allowed needle haystack → (s : TwoWaySearcher) → fits needle haystack s.fixed s.moving ≡ true → Stays needle haystack s
@@ -159,25 +159,25 @@ by_number why other = ((λ low high e. let z : number_of why ≡ 3 = cc in other
 
 module _ (needle haystack : List ℕ) (f : Fixed) (s : Moving) (stepping : Bool) where
   -- a call is refused by the checks, or not at all
-  not_three : (w : Walked) → (Passed stepping needle haystack f s → Answers w.ending)
+  not_three : (w : Walked) → (Passed needle haystack f s stepping → Answers w.ending)
       → ((why : Refusal) → refusal stepping needle haystack f s ≡ Err why → free (Err why) s ≡ w) → NotByThree w.ending
-  not_three w passed by = go (refusal stepping needle haystack f s) refl
+  not_three w went by = go (refusal stepping needle haystack f s) refl
     where
       go : (c : Check) → refusal stepping needle haystack f s ≡ c → NotByThree w.ending
-      go (Ok checked) e = passed (refusal_passed needle haystack f s stepping e) 3
+      go (Ok checked) e = went (passed needle haystack f s stepping e) 3
       go (Err why) e = subst (λ (r : Walked). NotByThree r.ending) (by why e) (by_number why (refusal_not_three stepping needle haystack f s e))
 
   forward_three : NotByThree (forward_call stepping needle haystack f s).ending
   forward_three =
       not_three (forward_call stepping needle haystack f s)
       (λ p. (forward_left needle haystack (record { within = p.within }) f s p.fit stepping p.no_overlapping_step).1)
-      (λ why e. forward_refused needle haystack f s stepping refl e refl)
+      (λ why e. call_refused needle haystack f s false stepping (sym e) refl)
 
   backward_three : NotByThree (backward_call stepping needle haystack f s).ending
   backward_three =
       not_three (backward_call stepping needle haystack f s)
       (λ p. (backward_left needle haystack (record { within = p.within }) f s p.fit stepping p.no_overlapping_step).1)
-      (λ why e. backward_refused needle haystack f s stepping refl e refl)
+      (λ why e. call_refused needle haystack f s true stepping (sym e) refl)
 
 -- preparing refuses by the lengths alone
 new_three : (needle : List ℕ) (n : ℕ) (mode : Mode) → (new_rule needle n mode).answer ≡ refused 3 → ⊥

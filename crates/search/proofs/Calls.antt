@@ -25,19 +25,21 @@ use Rattle.search.proofs.Loops.{search_stop}
 module _ (needle haystack : List ℕ) (f : Fixed) (s : Moving) where
   -- ---- what a call that is not refused knows
 
-  record Passed : Type 0 where
-    within : Within (length haystack) (length needle)
-    fit : fits needle haystack f s ≡ true
+  pub record Passed (stepping : Bool) : Type 0 where
+    pub within : Within (length haystack) (length needle)
+    pub fit : fits needle haystack f s ≡ true
+    pub no_overlapping_step : (stepping && overlaps f.mode) ≡ false
 
-  passed : (stepping : Bool) → refusal stepping needle haystack f s ≡ Ok tt → Passed
+  pub passed : (stepping : Bool) → refusal stepping needle haystack f s ≡ Ok tt → Passed stepping
   unfolding refusal fitting
   passed stepping q = go (lengths (length haystack) (length needle)) (fits needle haystack f s) (stepping && overlaps f.mode) refl refl refl
     where
-      go : (l : Check) (d o : Bool) → lengths (length haystack) (length needle) ≡ l → fits needle haystack f s ≡ d → (stepping && overlaps f.mode) ≡ o → Passed
+      go : (l : Check) (d o : Bool) → lengths (length haystack) (length needle) ≡ l → fits needle haystack f s ≡ d → (stepping && overlaps f.mode) ≡ o → Passed stepping
       go (Err why) d o el ed eo = let no = simp (el, ed, eo) at q in cc
       go (Ok u) false true el ed eo = let no = simp (el, ed, eo) at q in cc
       go (Ok u) false false el ed eo = let no = simp (el, ed, eo) at q in cc
-      go (Ok u) true o el ed eo = record { within = lengths_pass _ _ (sym el) refl; fit = ed }
+      go (Ok u) true true el ed eo = let no = simp (el, ed, eo) at q in cc
+      go (Ok u) true false el ed eo = record { within = lengths_pass _ _ (sym el) refl; fit = ed; no_overlapping_step = eo }
 
   -- ---- a walk, by what was checked and by its kind
 
