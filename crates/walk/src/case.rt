@@ -1,118 +1,137 @@
-// One line to one answer. Their forms stand in docs/LINES.md; the words in capitals are its own. Each answer is printed with a space
-// before it, which is not written.
-ghost use Rattle.std.specs.Prelude.{◌≤◌, length};
-ghost use Rattle.printing.specs.InRoom.{InRoom};
+// One line to one answer. Their forms stand in docs/LINES.md; the words in capitals are its own.
+ghost use Rattle.std.specs.Prelude.{◌≤◌, length, IfSome};
 
-use crate::call::Called;
-use crate::{call, name, reply, walk};
-use lines::Cursor;
-use searcher::Mode;
+use crate::call::Call;
+use crate::kind::Kind;
+use crate::reply;
+use lines::Read;
+use searcher::{Mode, TwoWaySearcher};
+use std::io::{self, Write};
 
 // The most bytes that a word may have.
 const WORD_BYTES: usize = 4096;
 
+// The most letters that a script may have.
+const SCRIPT_LETTERS: usize = 256;
+
 // The most bytes that a line may have: those of a walk over two such words, with the longest script. None that is longer is well formed.
 pub(crate) const LINE_BYTES: usize = 16649;
 
-// An answer has fewer bytes with its space: a walk with the longest script, if each call of it had three counts, and each number 20 digits.
-pub(crate) const ANSWER_BYTES: usize = 28999;
-
-// The lengths of a line's words, and where reading stands behind them.
+// What a line asks for, behind its words.
 #[derive(Clone, Copy)]
-struct Words {
+pub(crate) enum Asked<'a> {
+    Suffix { order_greater: bool },
+    ReverseSuffix { known: usize, order_greater: bool },
+    Prepare { haystack_len: usize, mode: Mode },
+    Find,
+    FindBack,
+    Call(Call, TwoWaySearcher),
+    Walk { mode: Mode, script: &'a [u8] },
+}
+
+// That, and the lengths of its words.
+#[derive(Clone, Copy)]
+struct Case<'a> {
     needle: usize,
     haystack: usize,
-    next: Cursor,
+    asked: Asked<'a>,
 }
 
-// Reads the words of a line, each into its room. Only what asks for a search has a second one.
-fn read_words(line: &[u8], c: Cursor, kind: u8, first: &mut [u8], second: &mut [u8]) -> Words
-    ensures { (result.needle ≤ length first.new) × (result.haystack ≤ length second.new) }
-{
-    let w = fields::read_word(line, lines::skip(line, c, b' '), first);
-    let next = w.next;
-    if name::has_one_word(kind) {
-        return Words {
-            needle: w.len,
-            haystack: 0,
-            next,
-        };
-    }
-    let v = fields::read_word(line, lines::skip(line, next, b' '), second);
-    let end = v.next;
-    Words {
-        needle: w.len,
-        haystack: v.len,
-        next: end,
-    }
+// Where reading stands behind the space at `at`.
+fn space(line: &[u8], at: usize) -> Option<usize> {
+    lines::skip(line, Some(at), b' ')
 }
 
-// What is answered before the calls of a script. Reading stands at `c`; `mode` and `script` are those of a walk.
-fn solve(
-    line: &[u8],
-    c: Cursor,
-    kind: u8,
-    mode: Mode,
-    script: &[u8],
-    needle: &[u8],
-    haystack: &[u8],
-) -> Called
-    ensures { result.reply.numbers ≤ 3 }
+// What was read, if it ends the line.
+fn last<T: Copy>(line: &[u8], read: Read<T>) -> Option<T> {
+    lines::is_end(line, Some(read.next)).then_some(read.value)
+}
+
+// The script that ends the line from `from` on.
+fn script(line: &[u8], from: usize) -> Option<&[u8]>
+    ensures { IfSome result (λ script. length script.now ≤ 256) }
 {
+    let script = line.get(from..)?;
+    if SCRIPT_LETTERS < script.len() {
+        return None;
+    }
+    lines::is_script(script).then_some(script)
+}
+
+// ORDER, behind the space at `at`, at the end of the line.
+fn order(line: &[u8], at: usize) -> Option<bool> {
+    last(line, fields::read_flag(line, space(line, at))?)
+}
+
+// What stands behind the words of a line, which end at `at`.
+fn read_asked(line: &[u8], at: usize, kind: Kind) -> Option<Asked<'_>> {
     match kind {
-        name::PREPARE => walk::prepare_line(line, c, needle),
-        name::WALK => walk::walk_start(mode, script, needle, haystack),
-        name::STEP | name::STEP_BACK | name::NEXT | name::NEXT_BACK => {
-            walk::call_line(line, c, kind, needle, haystack)
+        Kind::Suffix => Some(Asked::Suffix {
+            order_greater: order(line, at)?,
+        }),
+        Kind::ReverseSuffix => {
+            let known = fields::read_field(line, Some(at), b' ')?;
+            Some(Asked::ReverseSuffix {
+                known: known.value,
+                order_greater: order(line, known.next)?,
+            })
         }
-        _ => Called {
-            reply: reply::answer(line, c, kind, needle, haystack),
-            walk: call::none(),
-        },
+        Kind::Prepare => {
+            let length = fields::read_field(line, Some(at), b' ')?;
+            Some(Asked::Prepare {
+                haystack_len: length.value,
+                mode: last(line, states::read_mode(line, space(line, length.next))?)?,
+            })
+        }
+        Kind::Find => lines::is_end(line, Some(at)).then_some(Asked::Find),
+        Kind::FindBack => lines::is_end(line, Some(at)).then_some(Asked::FindBack),
+        Kind::Call(call) => Some(Asked::Call(
+            call,
+            states::read_state(line, space(line, at))?,
+        )),
+        Kind::Walk => {
+            let mode = states::read_mode(line, space(line, at))?;
+            Some(Asked::Walk {
+                mode: mode.value,
+                script: script(line, space(line, mode.next)?)?,
+            })
+        }
     }
 }
 
-// Prints the answer to a line whose words are read; reading stands at `c`.
-fn put_answer(
-    line: &[u8],
-    c: Cursor,
-    kind: u8,
-    needle: &[u8],
-    haystack: &[u8],
-    out: &mut [u8],
-) -> usize
-    ensures { InRoom out.new 28998 result }
+// Reads a line, its words into the two rooms.
+fn read<'a>(line: &'a [u8], first: &mut [u8], second: &mut [u8]) -> Option<Case<'a>>
+    ensures { IfSome result (λ case. (case.needle ≤ length first.new) × (case.haystack ≤ length second.new)) }
 {
-    // The mode of a walk, and where its script starts. Used of a walk only.
-    let read = states::read_mode(line, lines::skip(line, c, b' '));
-    let mode = read.mode;
-    let next = read.next;
-    let from = walk::script_start(line, next);
-    let called = solve(line, c, kind, mode, &line[from..], needle, haystack);
-    if name::has_state(kind) {
-        return walk::put_stated(out, called);
-    }
-    let at = reply::put_reply(out, 0, called.reply, reply::APART);
-    if kind != name::WALK {
-        return at;
-    }
-    if called.reply.numbers == 0 {
-        return at;
-    }
-    walk::put_calls(out, at, &line[from..], called.walk, haystack, needle)
+    let name = lines::until(line, b' ');
+    let kind = Kind::named(&line[..name])?;
+    let needle = fields::read_word(line, space(line, name), first)?;
+    let haystack = if kind.has_haystack() {
+        fields::read_word(line, space(line, needle.next), second)?
+    } else {
+        Read {
+            value: 0,
+            next: needle.next,
+        }
+    };
+    Some(Case {
+        needle: needle.value,
+        haystack: haystack.value,
+        asked: read_asked(line, haystack.next, kind)?,
+    })
 }
 
-// Prints the answer to a line, and gives its length. What is malformed or too long is answered by `bad line`.
-pub(crate) fn answer(line: &[u8], out: &mut [u8]) -> usize
-    ensures { InRoom out.new 28998 result }
-{
+// Prints the answer to a line. What is malformed or too long is answered by `bad line`.
+pub(crate) fn answer(out: &mut Vec<u8>, line: &[u8]) -> io::Result<()> {
     let mut first = [0u8; WORD_BYTES];
     let mut second = [0u8; WORD_BYTES];
-    let end = lines::until(line, b' ');
-    let kind = name::kind_of(&line[0..end]);
-    let words = read_words(line, Cursor::At(end), kind, &mut first, &mut second);
-    let c = words.next;
-    let m = words.needle;
-    let n = words.haystack;
-    put_answer(line, c, kind, &first[0..m], &second[0..n], out)
+    let Some(case) = read(line, &mut first, &mut second) else {
+        return write!(out, "bad line");
+    };
+    reply::put(
+        out,
+        case.asked,
+        &first[..case.needle],
+        &second[..case.haystack],
+    )
 }

@@ -4,115 +4,76 @@
 mod call;
 mod case;
 mod front;
-mod name;
+mod kind;
 mod reply;
-mod walk;
 
-ghost use Rattle.std.specs.Prelude.{◌≡◌, ◌≤◌, length, IfOk, OnErr};
+ghost use Rattle.std.specs.Prelude.{◌≤◌, vec_len};
+ghost use Rattle.walk.specs.declared.TheConstants.{LINE_ROOM};
 
+use std::alloc::{AllocError, Global};
 use std::io::{self, Read, Write};
 
 // The most bytes that are read at once.
 const PART_BYTES: usize = 4096;
 
-// How many bytes of the next line are there, and whether to read on.
-#[derive(Clone, Copy)]
-struct Taken {
-    at: usize,
-    more: bool,
+// What is kept of a line. It may have a carriage return behind it, and is too long if it fills the rest too.
+const LINE_ROOM: usize = case::LINE_BYTES + 2;
+
+// Answers a line, in one write.
+fn answer(alloc: Global, output: &mut impl Write, line: &[u8]) -> io::Result<()> {
+    let mut text = Vec::new(alloc);
+    case::answer(&mut text, line.strip_suffix(b"\r").unwrap_or(line))?;
+    text.push(b'\n')?;
+    output.write_all(&text)
 }
 
-// The length of a line without a carriage return at its end.
-fn without_return(line: &[u8]) -> usize
-    ensures { result ≤ length line.now }
+// Puts a byte behind what there is of a line. Of a line that is too long the rest is left out.
+fn keep(line: &mut Vec<u8>, b: u8) -> Result<(), AllocError>
+    requires { vec_len line.old ≤ LINE_ROOM }
+    ensures { vec_len line.new ≤ LINE_ROOM }
 {
-    let n = line.len();
-    if n == 0 {
-        return 0;
+    if line.len() < LINE_ROOM {
+        line.push(b)?;
     }
-    if line[n - 1] == b'\r' {
-        return n - 1;
-    }
-    n
+    Ok(())
 }
 
-// Answers a line.
-fn answer(output: &mut impl Write, line: &[u8]) -> io::Result<()> {
-    let mut out = [0u8; case::ANSWER_BYTES];
-    let end = without_return(line);
-    let at = case::answer(&line[0..end], &mut out);
-    out[at] = b'\n';
-    output.write_all(&out[1..at + 1])
-}
-
-// Puts a byte behind what there is of a line. A line that is too long leaves `line` full: what is behind that is left out.
-fn keep(line: &mut [u8], at: usize, b: u8) -> usize
-    requires { at ≤ length line.old }
-    ensures { result ≤ length line.new }
+// Takes a part of the input in, and answers each line that it ends. What is then in `line` is the next line's.
+fn take(output: &mut impl Write, part: &[u8], line: &mut Vec<u8>) -> io::Result<()>
+    requires { vec_len line.old ≤ LINE_ROOM }
+    ensures { vec_len line.new ≤ LINE_ROOM }
 {
-    if at == line.len() {
-        return at;
-    }
-    line[at] = b;
-    at + 1
-}
-
-// Takes a part of the input in, and answers each line that it ends. Gives how many bytes of the next line are there.
-fn take(output: &mut impl Write, part: &[u8], line: &mut [u8], start: usize) -> io::Result<usize>
-    requires { start ≤ length line.old }
-    ensures ok { IfOk result (λ at. at ≤ length line.new) }
-    ensures err { OnErr result (length line.new ≡ length line.old) }
-{
-    let mut at = start;
     for b in part {
         if *b != b'\n' {
-            at = keep(line, at, *b);
+            keep(line, *b)?;
             continue;
         }
-        answer(output, &line[0..at])?;
-        at = 0;
+        answer(*line.allocator(), output, line)?;
+        line.clear();
     }
-    Ok(at)
+    Ok(())
 }
 
-// Reads once. At the end of the input, what there is of a line is a line.
-fn read_some(
-    input: &mut impl Read,
-    output: &mut impl Write,
-    line: &mut [u8],
-    at: usize,
-) -> io::Result<Taken>
-    requires { at ≤ length line.old }
-    ensures ok { IfOk result (λ taken. taken.at ≤ length line.new) }
-    ensures err { OnErr result (length line.new ≡ length line.old) }
+// A proved loop has to end, and nothing says that the input does. So it counts its reads, up to a number that no run uses up. At the
+// end of the input, what there is of a line is a line.
+fn run(input: &mut impl Read, output: &mut impl Write, line: &mut Vec<u8>) -> io::Result<()>
+    requires { vec_len line.old ≤ LINE_ROOM }
 {
     let mut part = [0u8; PART_BYTES];
-    let n = input.read(&mut part)?;
-    if n == 0 {
-        if 0 < at {
-            answer(output, &line[0..at])?;
-        }
-        return Ok(Taken { at, more: false });
-    }
-    let at = take(output, &part[..n], line, at)?;
-    Ok(Taken { at, more: true })
-}
-
-// A proved loop has to end, and nothing says that the input does. So it counts its reads, up to a number that no run uses up.
-fn run(input: &mut impl Read, output: &mut impl Write, line: &mut [u8]) -> io::Result<()> {
-    let mut at = 0;
     for _ in 0..u64::MAX {
-        let taken = read_some(input, output, line, at)?;
-        if !taken.more {
+        let n = input.read(&mut part)?;
+        if n == 0 {
             break;
         }
-        at = taken.at;
+        take(output, &part[..n], line)?;
+    }
+    if !line.is_empty() {
+        answer(*line.allocator(), output, line)?;
     }
     Ok(())
 }
 
 fn main(rt: HostRuntime) -> io::Result<()> {
-    // A line may have a carriage return behind it, and is too long if it fills the rest too.
-    let mut line = [0u8; case::LINE_BYTES + 2];
+    let mut line = Vec::with_capacity(rt.alloc(), LINE_ROOM)?;
     run(&mut rt.reader(), &mut io::writer(&rt), &mut line)
 }

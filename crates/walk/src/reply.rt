@@ -1,156 +1,122 @@
-// The answers that have no state in them: a front, and counts behind it.
-ghost use Rattle.std.specs.Prelude.{◌+◌, ◌≤◌};
-ghost use Rattle.printing.specs.InRoom.{InRoom};
+// The answers: a front, and a state and counts behind it.
+use crate::call::Call;
+use crate::case::Asked;
+use crate::front::Front;
+use limits::Refusal;
+use searcher::{Mode, Prepared, TwoWaySearcher};
+use std::io::{self, Write};
+use suffix::{ReverseSuffix, Suffix};
+use twoway::Answer;
 
-use crate::front::{Front, put_front};
-use crate::name;
-use fields::Number;
-use lines::Cursor;
-use suffix::{ReverseAnswer, SuffixAnswer};
-use twoway::{Answer, Position};
+// A state has no more bytes, with the space before it.
+const STATE_BYTES: usize = 214;
 
-// Of the three counts the first `numbers` are there.
-#[derive(Clone, Copy)]
-pub(crate) struct Reply {
-    pub(crate) front: Front,
-    pub(crate) first: usize,
-    pub(crate) second: usize,
-    pub(crate) third: usize,
-    pub(crate) numbers: usize,
+fn put_refused(out: &mut Vec<u8>, why: Refusal) -> io::Result<()> {
+    write!(out, "{}", Front::Refused(why))
 }
 
-// The forms of three counts, or fewer of them: apart in a line, and in a walk, where they belong to a call.
-pub(crate) const COUNTS: [u8; 12] = *b" # # #/#/#/#";
+fn put_state(out: &mut Vec<u8>, walk: TwoWaySearcher) -> io::Result<()> {
+    let mut room = [0u8; STATE_BYTES];
+    let end = states::put_state(&mut room, 0, walk);
+    out.write_all(&room[..end])
+}
 
-pub(crate) const APART: usize = 0;
-
-pub(crate) const OF_CALL: usize = 6;
-
-// A front alone.
-pub(crate) fn alone(front: Front) -> Reply
-    ensures { result.numbers ≤ 3 }
-{
-    Reply {
-        front,
-        first: 0,
-        second: 0,
-        third: 0,
-        numbers: 0,
+fn put_suffix(out: &mut Vec<u8>, answer: Result<Suffix, Refusal>) -> io::Result<()> {
+    match answer {
+        Ok(s) => write!(out, "ok {} {} {}", s.start, s.period, s.rounds),
+        Err(why) => put_refused(out, why),
     }
 }
 
-fn suffix_found(found: SuffixAnswer) -> Reply
-    ensures { result.numbers ≤ 3 }
-{
-    match found {
-        SuffixAnswer::Found(s) => Reply {
-            front: Front::Ok,
-            first: s.start,
-            second: s.period,
-            third: s.rounds,
-            numbers: 3,
-        },
-        SuffixAnswer::Refused(why) => alone(Front::Refused(why)),
-    }
-}
-
-fn reverse_found(found: ReverseAnswer) -> Reply
-    ensures { result.numbers ≤ 3 }
-{
-    match found {
-        ReverseAnswer::Found(s) => Reply {
-            front: Front::Ok,
-            first: s.start,
-            second: s.rounds,
-            third: 0,
-            numbers: 2,
-        },
-        ReverseAnswer::Refused(why) => alone(Front::Refused(why)),
-    }
-}
-
-// The known period; the other of the two lines has no such field.
-fn read_known(line: &[u8], c: Cursor, kind: u8) -> Number {
-    if kind == name::SUFFIX {
-        return Number { value: 0, next: c };
-    }
-    fields::read_field(line, c, b' ')
-}
-
-// msuf WORD ORDER, and rmsuf WORD KNOWN ORDER
-fn suffix_line(line: &[u8], c: Cursor, kind: u8, word: &[u8]) -> Reply
-    ensures { result.numbers ≤ 3 }
-{
-    let known = read_known(line, c, kind);
-    let next = known.next;
-    let order = fields::read_flag(line, lines::skip(line, next, b' '));
-    let end = order.next;
-    if !lines::is_end(line, end) {
-        return alone(Front::Bad);
-    }
-    if kind == name::SUFFIX {
-        return suffix_found(suffix::maximal_suffix(word, order.set));
-    }
-    reverse_found(suffix::reverse_maximal_suffix(word, known.value, order.set))
-}
-
-fn place_front(position: Position) -> Front {
-    match position {
-        Position::At(k) => Front::At(k),
-        Position::Nothing => Front::Nothing,
-        Position::Refused(why) => Front::Refused(why),
+fn put_reverse_suffix(out: &mut Vec<u8>, answer: Result<ReverseSuffix, Refusal>) -> io::Result<()> {
+    match answer {
+        Ok(s) => write!(out, "ok {} {}", s.start, s.rounds),
+        Err(why) => put_refused(out, why),
     }
 }
 
 // A refused search has no counts.
-fn found(r: Answer) -> Reply
-    ensures { result.numbers ≤ 3 }
-{
-    let position = r.position;
-    if let Position::Refused(why) = position {
-        return alone(Front::Refused(why));
-    }
-    Reply {
-        front: place_front(position),
-        first: r.counts.preparing,
-        second: r.counts.comparisons,
-        third: r.counts.tests,
-        numbers: 3,
+fn put_found(out: &mut Vec<u8>, r: Answer) -> io::Result<()> {
+    match r.position {
+        Ok(place) => write!(
+            out,
+            "{} {} {} {}",
+            Front::from(place),
+            r.counts.preparing,
+            r.counts.comparisons,
+            r.counts.tests,
+        ),
+        Err(why) => put_refused(out, why),
     }
 }
 
-// find NEEDLE HAYSTACK, and rfind
-fn search_line(line: &[u8], c: Cursor, kind: u8, needle: &[u8], haystack: &[u8]) -> Reply
-    ensures { result.numbers ≤ 3 }
-{
-    if !lines::is_end(line, c) {
-        return alone(Front::Bad);
-    }
-    if kind == name::FIND {
-        return found(twoway::find_bytes(haystack, needle));
-    }
-    found(twoway::rfind_bytes(haystack, needle))
-}
-
-// The answer to a line whose words are read, and that asks for no state; reading stands at `c`.
-pub(crate) fn answer(line: &[u8], c: Cursor, kind: u8, needle: &[u8], haystack: &[u8]) -> Reply
-    ensures { result.numbers ≤ 3 }
-{
-    match kind {
-        name::SUFFIX | name::REVERSE_SUFFIX => suffix_line(line, c, kind, needle),
-        name::FIND | name::FIND_BACK => search_line(line, c, kind, needle, haystack),
-        _ => alone(Front::Bad),
+// Nor has a refused preparing, and no state.
+fn put_prepared(out: &mut Vec<u8>, p: Prepared) -> io::Result<()> {
+    match p.answer {
+        Ok(()) => {
+            write!(out, "ok")?;
+            put_state(out, p.walk)?;
+            write!(out, " {}", p.counts.preparing)
+        }
+        Err(why) => put_refused(out, why),
     }
 }
 
-// Prints a reply, with its counts in the form that starts at `form` among their forms.
-pub(crate) fn put_reply(out: &mut [u8], at: usize, r: Reply, form: usize) -> usize
-    requires { (r.numbers ≤ 3) × (form ≤ 6) }
-    ensures { InRoom out.new (at + 112) result }
-{
-    let numbers = r.numbers;
-    let row = [r.first, r.second, r.third];
-    let front = r.front;
-    let at = put_front(out, at, front);
-    printing::put_form(out, at, &COUNTS[form..form + 2 * numbers], &row)
+// One call in a handed-in state.
+fn put_call(
+    out: &mut Vec<u8>,
+    call: Call,
+    walk: TwoWaySearcher,
+    haystack: &[u8],
+    needle: &[u8],
+) -> io::Result<()> {
+    let told = call.make(walk, haystack, needle);
+    write!(out, "{}", told.front)?;
+    put_state(out, told.walk)?;
+    write!(out, " {} {}", told.counts.comparisons, told.counts.tests)
+}
+
+// A walk from preparing on, by each letter of a script: RESULT/COMPARISONS/TESTS for each, and the last state.
+fn put_walk(
+    out: &mut Vec<u8>,
+    mode: Mode,
+    script: &[u8],
+    haystack: &[u8],
+    needle: &[u8],
+) -> io::Result<()> {
+    let prepared = TwoWaySearcher::new(needle, haystack.len(), mode);
+    if let Err(why) = prepared.answer {
+        return put_refused(out, why);
+    }
+    write!(out, "ok {}", prepared.counts.preparing)?;
+    let mut walk = prepared.walk;
+    for letter in script {
+        let told = Call::of_letter(*letter).make(walk, haystack, needle);
+        let counts = told.counts;
+        write!(out, " {}/{}/{}", told.front, counts.comparisons, counts.tests)?;
+        walk = told.walk;
+    }
+    put_state(out, walk)
+}
+
+pub(crate) fn put(out: &mut Vec<u8>, asked: Asked<'_>, needle: &[u8], haystack: &[u8]) -> io::Result<()> {
+    match asked {
+        Asked::Suffix { order_greater } => {
+            put_suffix(out, suffix::maximal_suffix(needle, order_greater))
+        }
+        Asked::ReverseSuffix {
+            known,
+            order_greater,
+        } => put_reverse_suffix(
+            out,
+            suffix::reverse_maximal_suffix(needle, known, order_greater),
+        ),
+        Asked::Prepare { haystack_len, mode } => {
+            put_prepared(out, TwoWaySearcher::new(needle, haystack_len, mode))
+        }
+        Asked::Find => put_found(out, twoway::find_bytes(haystack, needle)),
+        Asked::FindBack => put_found(out, twoway::rfind_bytes(haystack, needle)),
+        Asked::Call(call, walk) => put_call(out, call, walk, haystack, needle),
+        Asked::Walk { mode, script } => put_walk(out, mode, script, haystack, needle),
+    }
 }

@@ -1,9 +1,8 @@
--- `walk::take` meets its contract. The loop's invariant: the room keeps its length, and the line is within its room.
+-- `walk::take` meets its contract. The loop's invariant: what is kept of a line is within its room.
 -- Assumes nothing.
-use Prim.Native.Nat.{◌≤◌}
-use mathlib.Core.Path.{◌≡◌}
-use lib.ListN.{length}
+use Rattle.std.proofs.Common.{◌≤◌, vec_len}
+use Rattle.walk.specs.declared.TheConstants.{LINE_ROOM}
 use Rattle.walk.proofs.take.Given as goal
 
 abbrev pub invariant-loop-b : goal.invariant-loop-b
-invariant-loop-b g l = (length l.line ≡ length l.initial.line) × (l.at ≤ length l.line)
+invariant-loop-b g l = vec_len l.line ≤ LINE_ROOM
