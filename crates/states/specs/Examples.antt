@@ -1,17 +1,17 @@
 -- A state read and printed, computed from the definitions: one table under one claim.
 -- The bytes are ASCII: 32 is a space, 48 `0`, 58 `:`, 69 `E`, 76 `L`, 79 `O`, 83 `S`, 110 `n`, 111 `o`, 112 `p`. Assumes nothing.
-use Rattle.std.specs.Prelude.{ℕ, cond, List, [], ◌∷◌, ◌++◌, T}
+use Rattle.std.specs.Prelude.{ℕ, cond, List, [], ◌∷◌, ◌++◌, T, Option, Some, None, is_some}
+use Rattle.std.specs.Fmt.{digits}
 use Rattle.words.specs.Examples.{Example, same, all_as_stated}
 use Rattle.lines.specs.Reading.{skipped}
-use Rattle.lines.specs.declared.Cursor.TheVariants.{At}
-use Rattle.fields.specs.Fields.{either_at, digit_of, takes, number_from, number_at, set_from, set_at}
-use Rattle.printing.specs.Printing.{hex_text, decimal_size, decimal_text, spent, part_text, form_from, form_text}
+use Rattle.fields.specs.Fields.{either_at, digit_of, with_digit, digits_from, number_at, set_at}
+use Rattle.printing.specs.Printing.{hex_text, spent, form_text}
 use Rattle.record.specs.declared.Memory.{Memory}
 use Rattle.record.specs.declared.Memory.TheVariants.{Long, Short}
 use Rattle.record.specs.declared.Kind.{Kind}
 use Rattle.record.specs.declared.Kind.TheVariants.{TwoWay, Empty}
 use Rattle.record.specs.Kinds.{overlaps}
-use Rattle.states.specs.declared.Read.{Read}
+use Rattle.searcher.specs.declared.TwoWaySearcher.{TwoWaySearcher}
 use Rattle.states.specs.States.{head_at, two_at, mode_at, ends_at, memory_at, splits_at, flags_at, state_at, state_text}
 
 -- ` S:4:6:6:6:n:1:3:2:0000400200000000:0:4`, after the walk of P9
@@ -41,32 +41,37 @@ kind TwoWay = 0 ∷ []
 kind (Empty forward backward) = 1 ∷ cond forward 1 0 ∷ cond backward 1 0 ∷ []
 
 -- whether the line ends behind a state that was read: 1, else 0
-abbrev pub whole : Read → ℕ
-whole r = cond r.whole 1 0
+abbrev pub whole : Option TwoWaySearcher → ℕ
+whole read = cond (is_some read) 1 0
 
 -- that, and what was read: its numbers, with 0 for non-overlapping and 1 for overlapping behind the ends
-abbrev pub numbers : Read → List ℕ
-numbers r =
-    let w = r.walk in
-    whole r ∷ w.fixed.needle_len ∷ w.fixed.haystack_len ∷ w.moving.position ∷ w.moving.end ∷ cond (overlaps w.fixed.mode) 1 0 ∷ w.fixed.crit_pos ∷ w.fixed.crit_pos_back ∷ w.fixed.period ∷ w.fixed.byteset ∷ memory w.moving.memory ++ kind w.moving.kind
+abbrev pub numbers : Option TwoWaySearcher → List ℕ
+numbers None = whole None ∷ []
+numbers (Some w) =
+    whole (Some w) ∷ w.fixed.needle_len ∷ w.fixed.haystack_len ∷ w.moving.position ∷ w.moving.end ∷ cond (overlaps w.fixed.mode) 1 0 ∷ w.fixed.crit_pos ∷ w.fixed.crit_pos_back ∷ w.fixed.period ∷ w.fixed.byteset ∷ memory w.moving.memory ++ kind w.moving.kind
+
+-- and its text
+abbrev pub text : Option TwoWaySearcher → List ℕ
+text None = []
+text (Some w) = state_text w
 
 abbrev pub table : List Example
 table =
     -- what is read
-    record { computed = numbers (state_at short (At 1)); stated = 1 ∷ 4 ∷ 6 ∷ 6 ∷ 6 ∷ 0 ∷ 1 ∷ 3 ∷ 2 ∷ 70377334112256 ∷ 0 ∷ 4 ∷ 0 ∷ [] }
-    ∷ record { computed = numbers (state_at long (At 1)); stated = 1 ∷ 4 ∷ 9 ∷ 0 ∷ 9 ∷ 1 ∷ 2 ∷ 2 ∷ 3 ∷ 128849018880 ∷ 0 ∷ [] }
-    ∷ record { computed = numbers (state_at empty (At 1)); stated = 1 ∷ 0 ∷ 2 ∷ 1 ∷ 2 ∷ 0 ∷ 0 ∷ 0 ∷ 0 ∷ 0 ∷ 1 ∷ 0 ∷ 1 ∷ [] }
+    record { computed = numbers (state_at short (Some 1)); stated = 1 ∷ 4 ∷ 6 ∷ 6 ∷ 6 ∷ 0 ∷ 1 ∷ 3 ∷ 2 ∷ 70377334112256 ∷ 0 ∷ 4 ∷ 0 ∷ [] }
+    ∷ record { computed = numbers (state_at long (Some 1)); stated = 1 ∷ 4 ∷ 9 ∷ 0 ∷ 9 ∷ 1 ∷ 2 ∷ 2 ∷ 3 ∷ 128849018880 ∷ 0 ∷ [] }
+    ∷ record { computed = numbers (state_at empty (Some 1)); stated = 1 ∷ 0 ∷ 2 ∷ 1 ∷ 2 ∷ 0 ∷ 0 ∷ 0 ∷ 0 ∷ 0 ∷ 1 ∷ 0 ∷ 1 ∷ [] }
     -- is printed as it was
-    ∷ record { computed = state_text (state_at short (At 1)).walk; stated = short }
-    ∷ record { computed = state_text (state_at long (At 1)).walk; stated = long }
-    ∷ record { computed = state_text (state_at empty (At 1)).walk; stated = empty }
+    ∷ record { computed = text (state_at short (Some 1)); stated = short }
+    ∷ record { computed = text (state_at long (Some 1)); stated = long }
+    ∷ record { computed = text (state_at empty (Some 1)); stated = empty }
     -- with one more digit behind its last flag the line does not end behind the state
-    ∷ record { computed = whole (state_at (empty ++ 48 ∷ []) (At 1)) ∷ []; stated = 0 ∷ [] }
+    ∷ record { computed = whole (state_at (empty ++ 48 ∷ []) (Some 1)) ∷ []; stated = 0 ∷ [] }
     -- a state may have `o` for its mode, but not `p`, `O`, `no` or nothing
-    ∷ record { computed = whole (state_at (empty_in (111 ∷ [])) (At 1)) ∷ whole (state_at (empty_in (112 ∷ [])) (At 1)) ∷ []; stated = 1 ∷ 0 ∷ [] }
-    ∷ record { computed = whole (state_at (empty_in (79 ∷ [])) (At 1)) ∷ whole (state_at (empty_in (110 ∷ 111 ∷ [])) (At 1)) ∷ whole (state_at (empty_in []) (At 1)) ∷ []; stated = 0 ∷ 0 ∷ 0 ∷ [] }
+    ∷ record { computed = whole (state_at (empty_in (111 ∷ [])) (Some 1)) ∷ whole (state_at (empty_in (112 ∷ [])) (Some 1)) ∷ []; stated = 1 ∷ 0 ∷ [] }
+    ∷ record { computed = whole (state_at (empty_in (79 ∷ [])) (Some 1)) ∷ whole (state_at (empty_in (110 ∷ 111 ∷ [])) (Some 1)) ∷ whole (state_at (empty_in []) (Some 1)) ∷ []; stated = 0 ∷ 0 ∷ 0 ∷ [] }
     ∷ []
 
 pub examples : T (all_as_stated table)
-unfolding all_as_stated same skipped either_at digit_of takes number_from number_at set_from set_at hex_text decimal_size decimal_text spent part_text form_from form_text head_at two_at mode_at ends_at memory_at splits_at flags_at state_at
+unfolding all_as_stated same skipped either_at digit_of with_digit digits_from number_at set_at digits hex_text spent form_text head_at two_at mode_at ends_at memory_at splits_at flags_at state_at
 examples = tt

@@ -6,28 +6,13 @@ ghost use Rattle.printing.specs.InRoom.{InRoom};
 ghost use Rattle.printing.specs.Printing.{Prints, form_text};
 ghost use Rattle.states.specs.States.{head_at, field_at, two_at, mode_at, ends_at, memory_at, splits_at, flags_at, rest_at, walk_of, state_at, letter_of, begin_text, splits_numbers, two_way_text, empty_text, state_text};
 
-use fields::Number;
-use lines::Cursor;
+use lines::Read;
 use searcher::{Fixed, Kind, Memory, Mode, Moving, TwoWaySearcher};
 
 // The letters of the two modes.
 const NON_OVERLAPPING: u8 = b'n';
 
 const OVERLAPPING: u8 = b'o';
-
-// A mode that was read, and where reading stands behind it. Where that is nowhere, nothing was read.
-#[derive(Clone, Copy)]
-pub struct ReadMode {
-    pub mode: Mode,
-    pub next: Cursor,
-}
-
-// A state that was read, and whether the line ends behind it. Where it does not, what was read is no state.
-#[derive(Clone, Copy)]
-pub struct Read {
-    pub walk: TwoWaySearcher,
-    pub whole: bool,
-}
 
 // The letter of each form: a long state, a short one, and that of an empty needle.
 #[derive(Clone, Copy)]
@@ -37,20 +22,7 @@ enum Letter {
     E,
 }
 
-// What was read of it, and where reading stands behind that.
-#[derive(Clone, Copy)]
-struct Head {
-    letter: Letter,
-    next: Cursor,
-}
-
-#[derive(Clone, Copy)]
-struct Two {
-    first: usize,
-    second: usize,
-    next: Cursor,
-}
-
+// What all forms have behind their letter.
 #[derive(Clone, Copy)]
 struct Ends {
     needle_len: usize,
@@ -58,15 +30,9 @@ struct Ends {
     position: usize,
     end: usize,
     mode: Mode,
-    next: Cursor,
 }
 
-#[derive(Clone, Copy)]
-struct Remembered {
-    memory: Memory,
-    next: Cursor,
-}
-
+// What stands behind that.
 #[derive(Clone, Copy)]
 struct Rest {
     crit_pos: usize,
@@ -75,168 +41,152 @@ struct Rest {
     byteset: u64,
     memory: Memory,
     kind: Kind,
-    next: Cursor,
 }
 
 // The letter of a state: L, S or E.
-fn read_head(line: &[u8], c: Cursor) -> Head
+#[tactic(auto, unfolding(crate::specs::States::head_at))]
+fn read_head(line: &[u8], c: Option<usize>) -> Option<Read<Letter>>
     ensures { result ≡ head_at line.now c }
 {
-    let long = lines::skip(line, c, b'L');
-    if let Cursor::At(_) = long {
-        return Head {
-            letter: Letter::L,
-            next: long,
-        };
+    if let Some(next) = lines::skip(line, c, b'L') {
+        let value = Letter::L;
+        return Some(Read { value, next });
     }
-    let short = lines::skip(line, c, b'S');
-    if let Cursor::At(_) = short {
-        return Head {
-            letter: Letter::S,
-            next: short,
-        };
+    if let Some(next) = lines::skip(line, c, b'S') {
+        let value = Letter::S;
+        return Some(Read { value, next });
     }
-    Head {
-        letter: Letter::E,
-        next: lines::skip(line, c, b'E'),
-    }
+    let value = Letter::E;
+    let next = lines::skip(line, c, b'E')?;
+    Some(Read { value, next })
 }
 
 // A number behind a colon, and two of them.
-fn read_one(line: &[u8], c: Cursor) -> Number
+fn read_one(line: &[u8], c: Option<usize>) -> Option<Read<usize>>
     ensures { result ≡ field_at line.now c }
 {
     fields::read_field(line, c, b':')
 }
 
-fn read_two(line: &[u8], c: Cursor) -> Two
+#[tactic(auto, unfolding(crate::specs::States::two_at))]
+fn read_two(line: &[u8], c: Option<usize>) -> Option<Read<(usize, usize)>>
     ensures { result ≡ two_at line.now c }
 {
-    let first = read_one(line, c);
-    let then = first.next;
-    let second = read_one(line, then);
+    let first = read_one(line, c)?;
+    let second = read_one(line, Some(first.next))?;
+    let value = (first.value, second.value);
     let next = second.next;
-    Two {
-        first: first.value,
-        second: second.value,
-        next,
-    }
+    Some(Read { value, next })
 }
 
 // Reads the letter of a mode.
-pub fn read_mode(line: &[u8], c: Cursor) -> ReadMode
+#[tactic(auto, unfolding(crate::specs::States::mode_at))]
+pub fn read_mode(line: &[u8], c: Option<usize>) -> Option<Read<Mode>>
     ensures { result ≡ mode_at line.now c }
 {
-    let read = fields::read_either(line, c, NON_OVERLAPPING, OVERLAPPING);
+    let read = fields::read_either(line, c, NON_OVERLAPPING, OVERLAPPING)?;
+    let value = if read.value {
+        Mode::Overlapping
+    } else {
+        Mode::NonOverlapping
+    };
     let next = read.next;
-    if read.set {
-        return ReadMode {
-            mode: Mode::Overlapping,
-            next,
-        };
-    }
-    ReadMode {
-        mode: Mode::NonOverlapping,
-        next,
-    }
+    Some(Read { value, next })
 }
 
 // What all forms have behind their letter: four numbers and the mode.
-fn read_ends(line: &[u8], c: Cursor) -> Ends
+#[tactic(auto, unfolding(crate::specs::States::ends_at))]
+fn read_ends(line: &[u8], c: Option<usize>) -> Option<Read<Ends>>
     ensures { result ≡ ends_at line.now c }
 {
-    let lengths = read_two(line, c);
-    let at = lengths.next;
-    let places = read_two(line, at);
-    let at = places.next;
-    let read = read_mode(line, lines::skip(line, at, b':'));
-    let mode = read.mode;
-    let next = read.next;
-    Ends {
-        needle_len: lengths.first,
-        haystack_len: lengths.second,
-        position: places.first,
-        end: places.second,
-        mode,
-        next,
-    }
+    let lengths = read_two(line, c)?;
+    let places = read_two(line, Some(lengths.next))?;
+    let mode = read_mode(line, lines::skip(line, Some(places.next), b':'))?;
+    let (needle_len, haystack_len) = lengths.value;
+    let (position, end) = places.value;
+    let value = Ends {
+        needle_len,
+        haystack_len,
+        position,
+        end,
+        mode: mode.value,
+    };
+    let next = mode.next;
+    Some(Read { value, next })
 }
 
-// The memories of a short state; a long one has none.
-fn read_memory(line: &[u8], c: Cursor, long: bool) -> Remembered
-    ensures { result ≡ memory_at line.now c long }
+// The memories of a short state. The others have none, of which there is nothing to read.
+#[tactic(auto, unfolding(crate::specs::States::memory_at))]
+fn read_memory(line: &[u8], c: Option<usize>, letter: Letter) -> Option<Read<Memory>>
+    ensures { result ≡ memory_at line.now c letter }
 {
-    if long {
-        return Remembered {
-            memory: Memory::Long,
-            next: c,
-        };
-    }
-    let memories = read_two(line, c);
-    let next = memories.next;
-    Remembered {
-        memory: Memory::Short {
-            forward: memories.first,
-            backward: memories.second,
-        },
-        next,
+    match letter {
+        Letter::S => {
+            let memories = read_two(line, c)?;
+            let (forward, backward) = memories.value;
+            let value = Memory::Short { forward, backward };
+            let next = memories.next;
+            Some(Read { value, next })
+        }
+        Letter::L | Letter::E => {
+            let value = Memory::Long;
+            let next = c?;
+            Some(Read { value, next })
+        }
     }
 }
 
 // What a long or a short state has behind its ends: the splits, the period, the set and the memories.
-fn read_splits(line: &[u8], c: Cursor, long: bool) -> Rest
-    ensures { result ≡ splits_at line.now c long }
+#[tactic(auto, unfolding(crate::specs::States::splits_at))]
+fn read_splits(line: &[u8], c: Option<usize>, letter: Letter) -> Option<Read<Rest>>
+    ensures { result ≡ splits_at line.now c letter }
 {
-    let splits = read_two(line, c);
-    let at = splits.next;
-    let period = read_one(line, at);
-    let at = period.next;
-    let set = fields::read_set(line, lines::skip(line, at, b':'));
-    let at = set.next;
-    let last = read_memory(line, at, long);
-    let memory = last.memory;
-    let next = last.next;
-    Rest {
-        crit_pos: splits.first,
-        crit_pos_back: splits.second,
+    let splits = read_two(line, c)?;
+    let period = read_one(line, Some(splits.next))?;
+    let set = fields::read_set(line, lines::skip(line, Some(period.next), b':'))?;
+    let memory = read_memory(line, Some(set.next), letter)?;
+    let (crit_pos, crit_pos_back) = splits.value;
+    let value = Rest {
+        crit_pos,
+        crit_pos_back,
         period: period.value,
         byteset: set.value,
-        memory,
+        memory: memory.value,
         kind: Kind::TwoWay,
-        next,
-    }
+    };
+    let next = memory.next;
+    Some(Read { value, next })
 }
 
 // What the state of an empty needle has there: its flags.
-fn read_flags(line: &[u8], c: Cursor) -> Rest
+#[tactic(auto, unfolding(crate::specs::States::flags_at))]
+fn read_flags(line: &[u8], c: Option<usize>) -> Option<Read<Rest>>
     ensures { result ≡ flags_at line.now c }
 {
-    let forward = fields::read_flag(line, lines::skip(line, c, b':'));
-    let at = forward.next;
-    let backward = fields::read_flag(line, lines::skip(line, at, b':'));
-    let next = backward.next;
+    let forward = fields::read_flag(line, lines::skip(line, c, b':'))?;
+    let backward = fields::read_flag(line, lines::skip(line, Some(forward.next), b':'))?;
     let empty = Kind::Empty {
-        is_match_fw: forward.set,
-        is_match_bw: backward.set,
+        is_match_fw: forward.value,
+        is_match_bw: backward.value,
     };
-    Rest {
+    let value = Rest {
         crit_pos: 0,
         crit_pos_back: 0,
         period: 0,
         byteset: 0,
         memory: Memory::Long,
         kind: empty,
-        next,
-    }
+    };
+    let next = backward.next;
+    Some(Read { value, next })
 }
 
 // What stands there, by the letter.
-fn read_rest(line: &[u8], c: Cursor, letter: Letter) -> Rest
+fn read_rest(line: &[u8], c: Option<usize>, letter: Letter) -> Option<Read<Rest>>
     ensures { result ≡ rest_at line.now c letter }
 {
     match letter {
-        Letter::L => read_splits(line, c, true),
-        Letter::S => read_splits(line, c, false),
+        Letter::L | Letter::S => read_splits(line, c, letter),
         Letter::E => read_flags(line, c),
     }
 }
@@ -244,22 +194,34 @@ fn read_rest(line: &[u8], c: Cursor, letter: Letter) -> Rest
 fn walk_of(ends: Ends, rest: Rest) -> TwoWaySearcher
     ensures { result ≡ walk_of ends rest }
 {
-    let mode = ends.mode;
-    let memory = rest.memory;
-    let kind = rest.kind;
+    let Ends {
+        needle_len,
+        haystack_len,
+        position,
+        end,
+        mode,
+    } = ends;
+    let Rest {
+        crit_pos,
+        crit_pos_back,
+        period,
+        byteset,
+        memory,
+        kind,
+    } = rest;
     TwoWaySearcher {
         fixed: Fixed {
-            needle_len: ends.needle_len,
-            haystack_len: ends.haystack_len,
+            needle_len,
+            haystack_len,
             mode,
-            crit_pos: rest.crit_pos,
-            crit_pos_back: rest.crit_pos_back,
-            period: rest.period,
-            byteset: rest.byteset,
+            crit_pos,
+            crit_pos_back,
+            period,
+            byteset,
         },
         moving: Moving {
-            position: ends.position,
-            end: ends.end,
+            position,
+            end,
             memory,
             kind,
         },
@@ -267,20 +229,17 @@ fn walk_of(ends: Ends, rest: Rest) -> TwoWaySearcher
 }
 
 // Reads a state at the end of a line.
-pub fn read_state(line: &[u8], c: Cursor) -> Read
+#[tactic(auto, unfolding(crate::specs::States::state_at))]
+pub fn read_state(line: &[u8], c: Option<usize>) -> Option<TwoWaySearcher>
     ensures { result ≡ state_at line.now c }
 {
-    let head = read_head(line, c);
-    let at = head.next;
-    let letter = head.letter;
-    let ends = read_ends(line, at);
-    let at = ends.next;
-    let rest = read_rest(line, at, letter);
-    let end = rest.next;
-    Read {
-        walk: walk_of(ends, rest),
-        whole: lines::is_end(line, end),
+    let head = read_head(line, c)?;
+    let ends = read_ends(line, Some(head.next))?;
+    let rest = read_rest(line, Some(ends.next), head.value)?;
+    if !lines::is_end(line, Some(rest.next)) {
+        return None;
     }
+    Some(walk_of(ends.value, rest.value))
 }
 
 // The letter of a mode.
@@ -288,9 +247,10 @@ fn mode_letter(mode: Mode) -> u8
     ensures { result ≡ letter_of mode }
 {
     if record::overlaps(mode) {
-        return OVERLAPPING;
+        OVERLAPPING
+    } else {
+        NON_OVERLAPPING
     }
-    NON_OVERLAPPING
 }
 
 // Prints what all forms begin with, behind a space: the letter, four numbers and the mode.
@@ -298,19 +258,17 @@ fn put_begin(out: &mut [u8], at: usize, w: TwoWaySearcher, letter: u8) -> usize
     ensures in_room { InRoom out.new (at + 88) result }
     ensures rule { Prints out.old at (begin_text w letter) out.new result }
 {
-    let fixed = w.fixed;
-    let moving = w.moving;
-    let mode = fixed.mode;
+    let TwoWaySearcher { fixed, moving } = w;
+    let mode = mode_letter(fixed.mode);
+    let form = [
+        b' ', letter, b':', b'#', b':', b'#', b':', b'#', b':', b'#', b':', mode,
+    ];
     let row = [
         fixed.needle_len,
         fixed.haystack_len,
         moving.position,
         moving.end,
     ];
-    // The two letters are put in below.
-    let mut form = *b" L:#:#:#:#:n";
-    form[1] = letter;
-    form[11] = mode_letter(mode);
     printing::put_form(out, at, &form, &row)
 }
 
@@ -371,11 +329,9 @@ pub fn put_state(out: &mut [u8], at: usize, w: TwoWaySearcher) -> usize
     ensures rule { Prints out.old at (state_text w) out.new result }
 {
     let moving = w.moving;
-    let kind = moving.kind;
-    let flags = record::flags_of(kind);
+    let flags = record::flags_of(moving.kind);
     if flags.empty {
         return put_empty(out, at, w, flags.is_match_fw, flags.is_match_bw);
     }
-    let memory = moving.memory;
-    put_two_way(out, at, w, memory)
+    put_two_way(out, at, w, moving.memory)
 }

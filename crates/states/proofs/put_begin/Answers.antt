@@ -1,8 +1,0 @@
--- `states::put_begin` meets its contract.
--- Assumes nothing.
-use borrow.Author.Rules.{rules}
-use Rattle.states.proofs.Laws.{prints_begin}
-use Rattle.states.proofs.put_begin.Goals as goal
-
-pub returns : goal.returns
-returns c = record { in_room = search rules; rule = search (rules, prints_begin) }
