@@ -85,10 +85,7 @@ fn read_asked(line: &[u8], at: usize, kind: Kind) -> Option<Asked<'_>> {
         }
         Kind::Find => lines::is_end(line, Some(at)).then_some(Asked::Find),
         Kind::FindBack => lines::is_end(line, Some(at)).then_some(Asked::FindBack),
-        Kind::Call(call) => Some(Asked::Call(
-            call,
-            states::read_state(line, space(line, at))?,
-        )),
+        Kind::Call(call) => Some(Asked::Call(call, states::read_state(line, space(line, at))?)),
         Kind::Walk => {
             let mode = states::read_mode(line, space(line, at))?;
             Some(Asked::Walk {

@@ -93,13 +93,22 @@ fn put_walk(
     for letter in script {
         let told = Call::of_letter(*letter).make(walk, haystack, needle);
         let counts = told.counts;
-        write!(out, " {}/{}/{}", told.front, counts.comparisons, counts.tests)?;
+        write!(
+            out,
+            " {}/{}/{}",
+            told.front, counts.comparisons, counts.tests
+        )?;
         walk = told.walk;
     }
     put_state(out, walk)
 }
 
-pub(crate) fn put(out: &mut Vec<u8>, asked: Asked<'_>, needle: &[u8], haystack: &[u8]) -> io::Result<()> {
+pub(crate) fn put(
+    out: &mut Vec<u8>,
+    asked: Asked<'_>,
+    needle: &[u8],
+    haystack: &[u8],
+) -> io::Result<()> {
     match asked {
         Asked::Suffix { order_greater } => {
             put_suffix(out, suffix::maximal_suffix(needle, order_greater))
