@@ -1,12 +1,9 @@
--- `compare::agree` meets its contract: the letters passed agree, of the words read from the front.
+-- `compare::agree` meets its contract. The loop's invariant: the letters passed agree.
 -- Assumes nothing.
-use Prim.Native.Nat.{◌-◌}
-use Rattle.words.specs.Word.{front}
-use Rattle.compare.proofs.Laws.{Alike}
+use Prim.Native.Nat.{ℕ, ◌<◌}
+use mathlib.Core.Path.{◌≡◌}
+use lib.ListN.{get_or}
 use Rattle.compare.proofs.agree.Given as goal
 
 abbrev pub invariant-loop-i : goal.invariant-loop-i
-invariant-loop-i l = Alike (front l.left) (front l.right) l.i
-
-abbrev pub decreases-loop-i : goal.decreases-loop-i
-decreases-loop-i l = l.n - l.i
+invariant-loop-i l = (k : ℕ) → k < l.i → get_or l.left k 0 ≡ get_or l.right k 0
