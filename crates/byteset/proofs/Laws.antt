@@ -1,20 +1,19 @@
 -- What a fingerprint says: it has the bit of a byte exactly if a byte of the string has that bit. So it may say yes falsely, and never no falsely.
 -- These laws hold for any list of numbers. Below them stand those for the ways through the code.
 -- Assumes nothing.
-use Prim.Native.Nat.{ℕ, zero, suc, ◌+◌, ◌-◌, ◌*◌, ◌/◌, ◌%◌, ◌^◌, ◌<◌, ◌≤◌, max}
+use Prim.Native.Nat.{ℕ, zero, suc, ◌+◌, ◌-◌, ◌/◌, ◌%◌, ◌^◌, ◌<◌, max}
 use mathlib.Core.Path.{◌≡◌, refl, sym, ◌∙◌, ap, subst}
 use mathlib.Core.Bool.{true, false, not, true≢false}
 use mathlib.Core.Logic.{◌⊎◌, inl, inr, ⊎_elim}
 use mathlib.Core.List.{List, [], ◌∷◌}
-use native.Mathlib.Nat.{zero-div, div-eq_of_lt, div_self, mul-mod_left, one-mul, pow-suc}
-use native.Mathlib.Numerals.{add-one}
+use native.Mathlib.Nat.{zero-div, div-eq_of_lt, div_self, mul-mod_left, pow-suc}
 use native.Mathlib.Omega.{arith}
 use native.Mathlib.Decide.{dec_lt, ℕ_discrete}
-use lib.Bits.{bit_and, bit_or, or_shr, or_step, and_mask, mask_lt}
-use lib.Pow.{pow-add, pow_pos, pow-lt, shl-shr, shl_exact}
-use lib.Dec.{eqb, lit<}
-use lib.ListN.{length, get_or, drop, drop_of_length-le}
-use lib.Seq.{drop-cons}
+use lib.Bits.{bit_and, bit_or, or_shr, or_step, and_mask}
+use lib.Pow.{pow-add, pow_pos, pow-lt, shl-shr}
+use lib.Dec.{eqb}
+use lib.ListN.{length, get_or}
+use Rattle.std.specs.List.{fold}
 use borrow.Author.Tests.{eqb-true, eq-eqb}
 use Rattle.words.proofs.Tests.{Decides, decides_eq, decides_iff}
 use Rattle.byteset.specs.Fingerprint.{bit_of, into, fingerprint, has, SharesBit}
@@ -104,28 +103,17 @@ never_no bytes i h = (has_decided bytes (get_or bytes i 0)).complete (record { p
 
 -- ---- the ways through the code
 
--- a bit is below 64
-pub bit_lt : (b : ℕ) → bit_of b < 64
-unfolding bit_of
-bit_lt b = mask_lt b 6
-
--- a shift of 1 in 64 bits
-shifted_one : (k : ℕ) → k < 64 → (1 * 2 ^ k) % 2 ^ 64 ≡ 2 ^ k
-shifted_one k h = shl_exact {a = 1} 1 k 64 (lit< tt) (omega arith) ∙ one-mul (2 ^ k)
-
--- a round of byteset_create: the byte x at i sets its bit, and the rest of the string then makes of the set what it made before
-pub create_step : (bytes : List ℕ) (set i x k : ℕ) → i < length bytes → k ≡ bit_of x → x ≡ get_or bytes i 0 → k < 64
-    → into set (drop i bytes) ≡ fingerprint bytes → into (bit_or ((1 * 2 ^ k) % 2 ^ 64) set) (drop (i + 1) bytes) ≡ fingerprint bytes
+-- the fold of byteset_create makes the same set
+fold_into : (set : ℕ) (bytes : List ℕ) → fold (λ s b. bit_or (2 ^ bit_of b) s) set bytes ≡ into set bytes
 unfolding into
-create_step bytes set i x k h e q l inv = rw (shifted_one k l, e, q, add-one) (rw (drop-cons bytes i 0 h) at inv)
+fold_into set [] = refl
+fold_into set (b ∷ bytes) = fold_into (bit_or (2 ^ bit_of b) set) bytes
 
--- its end: no byte is left
-pub create_end : (bytes : List ℕ) (set i : ℕ) → length bytes ≤ i → into set (drop i bytes) ≡ fingerprint bytes
-    → (set ≡ fingerprint bytes) × ((j : ℕ) → j < length bytes → has set (get_or bytes j 0) ≡ true)
-unfolding into
-create_end bytes set i h inv =
-    let e : set ≡ fingerprint bytes = rw (drop_of_length-le bytes h) at inv in
-    (e, λ j hj. rw e (never_no bytes j hj))
+-- what its answer is, and what it never says
+pub created : (bytes : List ℕ) {r : ℕ} → r ≡ fold (λ s b. bit_or (2 ^ bit_of b) s) 0 bytes
+    → (r ≡ fingerprint bytes) × ((i : ℕ) → i < length bytes → has r (get_or bytes i 0) ≡ true)
+unfolding fingerprint
+created bytes e = let same = e ∙ fold_into 0 bytes in (same, λ i h. rw same (never_no bytes i h))
 
 -- the test of byteset_contains: the mask leaves one bit, which is not 0 exactly if it is 1
 pub contains_test : (set k b : ℕ) → k ≡ bit_of b → not (eqb (bit_and (set / 2 ^ k) 1) 0) ≡ has set b

@@ -5,18 +5,12 @@ ghost use Rattle.std.specs.Prelude.{◌≡◌, true, ℕ, ◌<◌, length, get_o
 ghost use Rattle.byteset.specs.Fingerprint.{bit_of, fingerprint, has};
 
 // The bit that a byte sets. It is below 64, which a shift of a u64 asks.
+#[tactic(auto, unfolding(crate::specs::Fingerprint::bit_of))]
 fn bit_of(byte: u8) -> u64
-    ensures { (result ≡ bit_of byte) × (result < 64) }
+    ensures bit { result ≡ bit_of byte }
+    ensures in_range { result < 64 }
 {
-    (byte & 63) as u64
-}
-
-// Reads a byte: the one place of this crate that does.
-fn letter(bytes: &[u8], i: usize) -> u8
-    requires { i < length bytes.now }
-    ensures { result ≡ get_or bytes.now i 0 }
-{
-    bytes[i]
+    u64::from(byte & 63)
 }
 
 // The bits of all of `bytes`. There are 64 bits for 256 bytes, so bytes share them.
@@ -24,13 +18,7 @@ pub fn byteset_create(bytes: &[u8]) -> u64
     ensures set { result ≡ fingerprint bytes.now }
     ensures never_no { (i : ℕ) → i < length bytes.now → has result (get_or bytes.now i 0) ≡ true }
 {
-    let mut byteset: u64 = 0;
-    let mut i = 0;
-    while i < bytes.len() {
-        byteset = (1 << bit_of(letter(bytes, i))) | byteset;
-        i += 1;
-    }
-    byteset
+    bytes.iter().fold(0, |set, &byte| (1 << bit_of(byte)) | set)
 }
 
 // Whether the bit of `byte` is set. A yes may be due to another byte that shares the bit; a no is never wrong.

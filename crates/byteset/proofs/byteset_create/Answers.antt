@@ -1,16 +1,16 @@
+-- `byteset::byteset_create` meets its contract: its fold makes the fingerprint.
+-- Assumes nothing.
+use mathlib.Core.Path.{◌≡◌}
+use Prim.Native.Nat.{◌^◌}
 use borrow.Author.Rules.{rules}
-use Rattle.byteset.specs.Fingerprint.{fingerprint}
-use Rattle.byteset.proofs.Laws.{create_step, create_end}
+use lib.Bits.{bit_or}
+use Rattle.std.specs.List.{fold}
+use Rattle.byteset.specs.Fingerprint.{bit_of}
+use Rattle.byteset.proofs.Laws.{created}
 use Rattle.byteset.proofs.byteset_create.Goals as goal
-
-pub loop-i-init : goal.loop-i-init
-unfolding fingerprint
-loop-i-init c = search rules
-
-pub loop-i-preserved : goal.loop-i-preserved
-loop-i-preserved c = search (rules, create_step)
 
 pub returns : goal.returns
 returns c =
-    let e = create_end _ _ _ c.loop-i-test.false c.loop-i.invariant in
+    let made : c.fold.result ≡ fold (λ s b. bit_or (2 ^ bit_of b) s) 0 c.args.bytes.now = search rules in
+    let e = created c.args.bytes.now made in
     record { set = e.0; never_no = e.1 }
