@@ -1,7 +1,7 @@
 -- What a fingerprint says: it has the bit of a byte exactly if a byte of the string has that bit. So it may say yes falsely, and never no falsely.
 -- These laws hold for any list of numbers. Below them stand those for the ways through the code.
 -- Assumes nothing.
-use Prim.Native.Nat.{ℕ, zero, suc, ◌+◌, ◌-◌, ◌/◌, ◌%◌, ◌^◌, ◌<◌, max}
+use Prim.Native.Nat.{ℕ, zero, suc, ◌+◌, ◌-◌, ◌/◌, ◌%◌, ◌^◌, ◌<◌, ◌≤◌, max}
 use mathlib.Core.Path.{◌≡◌, refl, sym, ◌∙◌, ap, subst}
 use mathlib.Core.Bool.{true, false, not, true≢false}
 use mathlib.Core.Logic.{◌⊎◌, inl, inr, ⊎_elim}
@@ -9,11 +9,12 @@ use mathlib.Core.List.{List, [], ◌∷◌}
 use native.Mathlib.Nat.{zero-div, div-eq_of_lt, div_self, mul-mod_left, pow-suc}
 use native.Mathlib.Omega.{arith}
 use native.Mathlib.Decide.{dec_lt, ℕ_discrete}
-use lib.Bits.{bit_and, bit_or, or_shr, or_step, and_mask}
+use lib.Bits.{bit_and, bit_or, or_comm, or_shr, or_step, and_mask}
 use lib.Pow.{pow-add, pow_pos, pow-lt, shl-shr}
 use lib.Dec.{eqb}
-use lib.ListN.{length, get_or}
+use lib.ListN.{length, get_or, take}
 use Rattle.std.specs.List.{fold}
+use Rattle.std.proofs.lemmas.List.{take_all}
 use borrow.Author.Tests.{eqb-true, eq-eqb}
 use Rattle.words.proofs.Tests.{Decides, decides_eq, decides_iff}
 use Rattle.byteset.specs.Fingerprint.{bit_of, into, fingerprint, has, SharesBit}
@@ -103,17 +104,22 @@ never_no bytes i h = (has_decided bytes (get_or bytes i 0)).complete (record { p
 
 -- ---- the ways through the code
 
--- the fold of byteset_create makes the same set
-fold_into : (set : ℕ) (bytes : List ℕ) → fold (λ s b. bit_or (2 ^ bit_of b) s) set bytes ≡ into set bytes
-unfolding into
-fold_into set [] = refl
-fold_into set (b ∷ bytes) = fold_into (bit_or (2 ^ bit_of b) set) bytes
+-- what byteset_create folds over the bytes
+abbrev pub folded : ℕ → List ℕ → ℕ
+folded set bytes = fold (λ s b. bit_or s (2 ^ bit_of b)) set bytes
 
--- what its answer is, and what it never says
-pub created : (bytes : List ℕ) {r : ℕ} → r ≡ fold (λ s b. bit_or (2 ^ bit_of b) s) 0 bytes
-    → (r ≡ fingerprint bytes) × ((i : ℕ) → i < length bytes → has r (get_or bytes i 0) ≡ true)
+folded_into : (set : ℕ) (bytes : List ℕ) → folded set bytes ≡ into set bytes
+unfolding into
+folded_into set [] = refl
+folded_into set (b ∷ bytes) = folded_into (bit_or set (2 ^ bit_of b)) bytes ∙ ap (λ (s : ℕ). into s bytes) (or_comm set (2 ^ bit_of b))
+
+-- what its answer is once no byte is left, and what that never says
+pub created : (bytes : List ℕ) {set i : ℕ} → length bytes ≤ i → set ≡ folded 0 (take i bytes)
+    → (set ≡ fingerprint bytes) × ((j : ℕ) → j < length bytes → has set (get_or bytes j 0) ≡ true)
 unfolding fingerprint
-created bytes e = let same = e ∙ fold_into 0 bytes in (same, λ i h. rw same (never_no bytes i h))
+created bytes {set} {i} h e =
+    let made : set ≡ fingerprint bytes = e ∙ ap (folded 0) (take_all i bytes h) ∙ folded_into 0 bytes in
+    (made, λ j hj. rw made (never_no bytes j hj))
 
 -- the test of byteset_contains: the mask leaves one bit, which is not 0 exactly if it is 1
 pub contains_test : (set k b : ℕ) → k ≡ bit_of b → not (eqb (bit_and (set / 2 ^ k) 1) 0) ≡ has set b

@@ -18,7 +18,11 @@ pub fn byteset_create(bytes: &[u8]) -> u64
     ensures set { result ≡ fingerprint bytes.now }
     ensures never_no { (i : ℕ) → i < length bytes.now → has result (get_or bytes.now i 0) ≡ true }
 {
-    bytes.iter().fold(0, |set, &byte| (1 << bit_of(byte)) | set)
+    let mut byteset: u64 = 0;
+    for byte in bytes {
+        byteset |= 1 << bit_of(*byte);
+    }
+    byteset
 }
 
 // Whether the bit of `byte` is set. A yes may be due to another byte that shares the bit; a no is never wrong.
