@@ -28,7 +28,7 @@ use Rattle.search.specs.declared.Walked.{Walked}
 use Rattle.prepare.specs.Prepare.{five_steps, empty_walk, or_parts, prepare_rule}
 use Rattle.prepare.proofs.Ready.{prepared_ready}
 use Rattle.search.specs.Calls.{refusal, free, ending_of, forward, backward, forward_call, backward_call}
-use Rattle.search.proofs.Calls.{Passed, passed, refused as call_refused}
+use Rattle.search.proofs.Calls.{Passed, refusal_passed, refused as call_refused}
 use Rattle.searcher.specs.declared.TwoWaySearcher.{TwoWaySearcher}
 use Rattle.searcher.specs.Walk.{new_rule, step_answer, match_answer}
 use Rattle.demands.specs.Allowed.{Allowed}
@@ -164,7 +164,7 @@ module _ (needle haystack : List ℕ) (f : Fixed) (s : Moving) (stepping : Bool)
   not_three w went by = go (refusal stepping needle haystack f s) refl
     where
       go : (c : Check) → refusal stepping needle haystack f s ≡ c → NotByThree w.ending
-      go (Ok checked) e = went (passed needle haystack f s stepping e) 3
+      go (Ok checked) e = went (refusal_passed needle haystack f s stepping e) 3
       go (Err why) e = subst (λ (r : Walked). NotByThree r.ending) (by why e) (by_number why (refusal_not_three stepping needle haystack f s e))
 
   forward_three : NotByThree (forward_call stepping needle haystack f s).ending

@@ -30,9 +30,9 @@ module _ (needle haystack : List ℕ) (f : Fixed) (s : Moving) where
     pub fit : fits needle haystack f s ≡ true
     pub no_overlapping_step : (stepping && overlaps f.mode) ≡ false
 
-  pub passed : (stepping : Bool) → refusal stepping needle haystack f s ≡ Ok tt → Passed stepping
+  pub refusal_passed : (stepping : Bool) → refusal stepping needle haystack f s ≡ Ok tt → Passed stepping
   unfolding refusal fitting
-  passed stepping q = go (lengths (length haystack) (length needle)) (fits needle haystack f s) (stepping && overlaps f.mode) refl refl refl
+  refusal_passed stepping q = go (lengths (length haystack) (length needle)) (fits needle haystack f s) (stepping && overlaps f.mode) refl refl refl
     where
       go : (l : Check) (d o : Bool) → lengths (length haystack) (length needle) ≡ l → fits needle haystack f s ≡ d → (stepping && overlaps f.mode) ≡ o → Passed stepping
       go (Err why) d o el ed eo = let no = simp (el, ed, eo) at q in cc
@@ -64,11 +64,11 @@ module _ (needle haystack : List ℕ) (f : Fixed) (s : Moving) where
   module _ (stepping : Bool) (checked : Ok tt ≡ refusal stepping needle haystack f s) where
     -- a cursor of a state that fits is inside
     pub position_in : s.position ≤ length haystack
-    position_in = (state needle haystack f s (passed stepping (sym checked)).fit).position_in
+    position_in = (state needle haystack f s (refusal_passed stepping (sym checked)).fit).position_in
 
     pub two_way_start : {flags : Flags} → flags ≡ flags_of s.kind → flags.empty ≡ false → TwoWayStart needle haystack f s
     two_way_start told e =
-        let p = passed stepping (sym checked) in
+        let p = refusal_passed stepping (sym checked) in
         record { within = p.within; fit = p.fit; two_way = rw told at e }
 
   -- ---- a two way walk, with the plan v and the cursor k that were taken out of the record

@@ -19,14 +19,12 @@ pub(crate) fn first_up(haystack: &[u8], needle: &[u8], at: usize, from: usize, t
     ensures rule { result ≡ first_up (front needle.now) (front haystack.now) at from to }
     ensures on { from ≤ result }
 {
-    let mut i = from;
-    while i < to {
+    for i in from..to {
         if letter(needle, i) != letter(haystack, at + i) {
             return i;
         }
-        i += 1;
     }
-    i
+    to
 }
 
 // How many letters agree from index `from` - 1 down, as far as index `to`.
@@ -34,12 +32,10 @@ pub(crate) fn agree_down(haystack: &[u8], needle: &[u8], at: usize, from: usize,
     requires { (from ≤ length needle.now) × (at + length needle.now ≤ length haystack.now) }
     ensures { result ≡ agree_down (front needle.now) (front haystack.now) at from to }
 {
-    let mut i = from;
-    while to < i {
-        i -= 1;
+    for i in (to..from).rev() {
         if letter(needle, i) != letter(haystack, at + i) {
             return from - (i + 1);
         }
     }
-    from - i
+    from.saturating_sub(to)
 }
