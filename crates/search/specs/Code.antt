@@ -14,6 +14,7 @@ use Rattle.windows.specs.Window.{differs, forward_window, backward_window}
 use Rattle.windows.specs.Search.{window_start, forward_search, backward_search}
 use Rattle.windows.specs.Mirror.{mirrored_plan}
 use Rattle.windows.specs.Shape.{Shape, BackShape}
+use Rattle.empty.specs.declared.Side.{Side}
 use Rattle.record.specs.declared.Flags.{Flags}
 use Rattle.record.specs.declared.Fixed.{Fixed}
 use Rattle.record.specs.declared.Moving.{Moving}
@@ -63,6 +64,10 @@ searched_from backward stepping set v needle haystack start =
 abbrev pub two_way : Bool → Bool → List ℕ → List ℕ → Fixed → Moving → Walked
 two_way backward stepping needle haystack f s =
     cond backward (two_way_backward stepping needle haystack f s) (two_way_forward stepping needle haystack f s)
+
+abbrev pub side_of : Bool → ℕ → Moving → Flags → Side
+side_of backward n s flags =
+    cond backward (record { ahead = s.end; is_match = flags.is_match_bw }) (record { ahead = n - s.position; is_match = flags.is_match_fw })
 
 abbrev pub empty_way : Bool → Bool → ℕ → Moving → Flags → Walked
 empty_way backward stepping n s flags = cond backward (empty_backward stepping s flags) (empty_forward stepping n s flags)

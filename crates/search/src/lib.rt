@@ -116,7 +116,7 @@ fn two_way<const BACKWARD: bool>(
     }
 }
 
-// A walk taken on in a direction, by one step (`stepping`) or to the next match.
+// What both calls are: the checks, and then a walk of either kind.
 fn walk<const BACKWARD: bool>(
     haystack: &[u8],
     needle: &[u8],
@@ -136,6 +136,7 @@ fn walk<const BACKWARD: bool>(
     two_way::<BACKWARD>(haystack, needle, fixed, moving, stepping)
 }
 
+// A walk taken on forward, by one step (`stepping`) or to the next match.
 pub fn forward(
     haystack: &[u8],
     needle: &[u8],
@@ -148,6 +149,7 @@ pub fn forward(
     walk::<false>(haystack, needle, fixed, moving, stepping)
 }
 
+// The same backward.
 pub fn backward(
     haystack: &[u8],
     needle: &[u8],

@@ -79,7 +79,7 @@ pub(crate) fn search<const BACKWARD: bool>(
     }
     let end = Cursor {
         at: far_end::<BACKWARD>(n),
-        memory: s.memory,
+        ..s
     };
     ended(Stop::Out, end, comparisons, tests)
 }
