@@ -1,12 +1,10 @@
 -- What each way through a call shows: what was checked, what a search asks and gives, and what is handed back.
 -- Assumes nothing.
 use Rattle.std.proofs.Common.{◌≡◌, ℕ, ◌≤◌, Bool, true, false, cond, ◌&&◌, ◌⊎◌, ⊎_elim, eqb, ne_eqb, List, length, Ok, Err, sym, refl, ◌∙◌, arith}
-use Rattle.words.specs.Word.{front}
 use Rattle.limits.specs.Checks.{Check, lengths, Within}
 use Rattle.limits.specs.declared.Refusal.{Refusal}
 use Rattle.limits.proofs.Room.{haystack_room, needle_room}
 use Rattle.limits.proofs.Checks.{lengths_pass}
-use Rattle.byteset.specs.Fingerprint.{has}
 use Rattle.windows.specs.declared.Plan.{Plan}
 use Rattle.windows.specs.declared.Cursor.{Cursor}
 use Rattle.windows.specs.declared.Searched.{Searched}
@@ -19,8 +17,7 @@ use Rattle.record.proofs.Fitting.{state, told_two_way, fits_forward, fits_backwa
 use Rattle.search.specs.declared.Ending.{Ending}
 use Rattle.search.specs.declared.Walked.{Walked}
 use Rattle.search.specs.Calls.{refusal, walking, free, ending_of, or_walked, forward, backward, forward_call, backward_call}
-use Rattle.search.specs.Code.{StopFits, TwoWayStart, searched_from, two_way, empty_way, call, far_end, Start}
-use Rattle.search.proofs.Loops.{search_stop}
+use Rattle.search.specs.Code.{TwoWayStart, searched_from, two_way, empty_way, call, far_end, Start}
 
 module _ (needle haystack : List ℕ) (f : Fixed) (s : Moving) where
   -- ---- what a call that is not refused knows
@@ -102,10 +99,6 @@ module _ (needle haystack : List ℕ) (f : Fixed) (s : Moving) where
             record { shape = g.shape; back = omega arith; within = g.within; memory = g.memory; small = omega (arith, haystack_room); needle = omega (arith, needle_room) }
 
     module _ (stepping : Bool) {r : Searched} (searched : r ≡ searched_from backward stepping f.byteset v needle haystack k) where
-      -- a match's end fits
-      pub stop : StopFits (length needle) r.stop
-      stop = rw searched (search_stop backward stepping (has f.byteset) v (front needle) (front haystack) k search_start)
-
       pub walked : {ending : Ending} {moving : Moving} {to : ℕ} → to ≡ far_end backward (length haystack)
           → ((stepping ≡ true) × (k.at ≡ to → ⊥)) ⊎ (stepping ≡ false)
           → ending ≡ ending_of (length needle) r.stop → moving ≡ moved_to backward s r.cursor

@@ -1,6 +1,6 @@
 -- What a search's loop keeps, and what its passes and its ends show, in either direction.
 -- Assumes nothing.
-use Rattle.std.proofs.Common.{◌≡◌, ℕ, zero, suc, ◌+◌, ◌-◌, ◌*◌, ◌^◌, ◌<◌, ◌≤◌, Bool, true, false, cond, not, ◌&&◌, ◌⊎◌, ⊎_elim, eqb, ltb, eq-eqb, ne_eqb, sym, refl, ◌∙◌, arith, ltb-true}
+use Rattle.std.proofs.Common.{◌≡◌, ℕ, suc, ◌+◌, ◌-◌, ◌*◌, ◌^◌, ◌<◌, ◌≤◌, Bool, true, false, cond, not, ◌&&◌, ◌⊎◌, ⊎_elim, eqb, eq-eqb, ne_eqb, sym, refl, ◌∙◌, arith}
 use Rattle.words.specs.Word.{Word, mirror}
 use Rattle.windows.specs.declared.Plan.{Plan}
 use Rattle.windows.specs.declared.Cursor.{Cursor}
@@ -12,8 +12,8 @@ use Rattle.windows.specs.Search.{ended, moved_to, forward_search, backward_searc
 use Rattle.windows.specs.Mirror.{mirrored_plan, mirrored_cursor}
 use Rattle.windows.specs.Shape.{Shape, BackShape}
 use Rattle.windows.proofs.Counts.{Spent, spent_window}
-use Rattle.windows.proofs.Mirror.{MirroredCursor, MirroredOutcome, MirroredStop, mirrored_cursor_is, window_mirrored, search_mirrored}
-use Rattle.search.specs.Code.{StopFits, window_of, has_room, window_at, far_end, plan_seen, Start, Room}
+use Rattle.windows.proofs.Mirror.{MirroredCursor, MirroredOutcome, mirrored_cursor_is, window_mirrored}
+use Rattle.search.specs.Code.{window_of, has_room, window_at, far_end, plan_seen, Start, Room}
 
 -- a step ends its search once it has passed a part, and not before
 pub part_passed : (stepping : Bool) (now start : ℕ) → stepping ≡ true → (now ≡ start → ⊥) → (stepping && not (eqb now start)) ≡ true
@@ -147,56 +147,3 @@ pub window_keeps : (backward : Bool) (has : ℕ → Bool) (x h : Word) {v : Plan
     → Keeps backward v x.size h.size start u.next (d + u.comparisons) (t + 1)
 window_keeps true has x h asked room k made = backward_keeps has x h asked.back asked.shape room k made
 window_keeps false has x h asked room k made = forward_keeps has x h asked.shape room k made
-
--- a needle that has room is no longer than the haystack
-pub room_inside : (backward : Bool) (at m n : ℕ) → at ≤ n → Room backward at m n → m ≤ n
-room_inside true at m n within room = omega arith
-room_inside false at m n within room = omega arith
-
--- ---- how a search ends: a match lies inside the haystack
-
-hit_forward : (fuel : ℕ) (stepping : Bool) (has : ℕ → Bool) (v : Plan) (x h : Word) (old : ℕ) (s : Cursor) (d t k : ℕ) → 0 < x.size
-    → (forward_search fuel stepping has v x h old s d t).stop ≡ Stop.Hit k → k + x.size ≤ h.size
-unfolding forward_search
-hit_forward zero stepping has v x h old s d t k some e = let z : ◌≡◌ {A = ℕ} 0 1 = cc in absurd (omega arith)
-hit_forward (suc more) stepping has v x h old s d t k some e =
-    let w = forward_window has v x h s in
-    go (ltb (s.at + (x.size - 1)) h.size) refl (stepping && not (eqb s.at old)) w.matched (hit_forward more stepping has v x h old w.next (d + w.comparisons) (t + 1) k some) e
-  where
-    w : Outcome
-    w = forward_window has v x h s
-
-    on : Searched
-    on = forward_search more stepping has v x h old w.next (d + w.comparisons) (t + 1)
-
-    go : (a : Bool) → ltb (s.at + (x.size - 1)) h.size ≡ a → (b c : Bool) → (on.stop ≡ Stop.Hit k → k + x.size ≤ h.size)
-        → (cond {A = Searched} a
-        (cond b (ended Stop.Passed s d t) (cond c (ended (Stop.Hit s.at) w.next (d + w.comparisons) (t + 1)) on))
-        (ended Stop.Out (moved_to h.size s) d t)).stop
-        ≡ Stop.Hit k
-        → k + x.size ≤ h.size
-    go false room b c later e = cc
-    go true room true c later e = cc
-    go true room false true later e = let same : k ≡ s.at = cc in omega (arith, ltb-true)
-    go true room false false later e = later e
-
-mirrored_hit : (m n k : ℕ) (p' : Stop) → MirroredStop m n (Stop.Hit k) p' → k + m ≤ n
-mirrored_hit m n k p' (MirroredStop.hit q) = omega arith
-
--- by the mirror
-hit_backward : (stepping : Bool) (has : ℕ → Bool) (v : Plan) (x h : Word) (s : Cursor) (k : ℕ) → Start true x.size h.size v s
-    → (backward_search (h.size + 1) stepping has v x h s.at s 0 0).stop ≡ Stop.Hit k → k + x.size ≤ h.size
-hit_backward stepping has v x h s k asked e =
-    let there = search_mirrored stepping has v x h s.at (h.size - s.at) asked.back (omega arith) (omega arith) asked.needle (omega arith) (h.size + 1) s (mirrored_cursor x.size h.size s) 0 0 (mirrored_cursor_is x.size h.size s asked.within asked.memory) in
-    mirrored_hit x.size h.size k _ (rw e at there.stops)
-
--- so its end does not wrap
-stop_fits : (m n : ℕ) (p : Stop) → ((k : ℕ) → p ≡ Stop.Hit k → k + m ≤ n) → n < 2 ^ 63 → StopFits m p
-stop_fits m n (Stop.Hit k) inside small = let e = inside k refl in omega arith
-stop_fits m n Stop.Passed inside small = tt
-stop_fits m n Stop.Out inside small = tt
-
-pub search_stop : (backward stepping : Bool) (has : ℕ → Bool) (v : Plan) (x h : Word) (s : Cursor) → Start backward x.size h.size v s
-    → StopFits x.size (searching backward (h.size + 1) stepping has v x h s.at s 0 0).stop
-search_stop true stepping has v x h s asked = stop_fits x.size h.size _ (λ k. hit_backward stepping has v x h s k asked) (omega arith)
-search_stop false stepping has v x h s asked = stop_fits x.size h.size _ (λ k. hit_forward (h.size + 1) stepping has v x h s.at s 0 0 k (omega arith)) (omega arith)

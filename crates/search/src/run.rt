@@ -1,7 +1,7 @@
 // Windows until there is an answer: a match, a part passed without one (where a step asks for that), or no room for a further window.
 // Each function here serves both directions.
-ghost use Rattle.std.specs.Prelude.{◌≡◌, ◌*◌, ◌^◌, ◌<◌, ◌≤◌, length, IsTrue};
-ghost use Rattle.search.specs.Code.{searched_from, has_room, window_at, far_end, Room, Start};
+ghost use Rattle.std.specs.Prelude.{◌≡◌, ◌+◌, ◌*◌, ◌^◌, ◌<◌, ◌≤◌, length, IsTrue};
+ghost use Rattle.search.specs.Code.{searched_from, has_room, window_at, far_end, StopFits, Room, Start};
 
 use crate::window::window;
 use windows::{Cursor, Plan, Searched, Stop};
@@ -35,8 +35,10 @@ fn has_room<const BACKWARD: bool>(at: usize, m: usize, n: usize) -> bool
 
 // Where the window starts, which has room.
 fn window_at<const BACKWARD: bool>(at: usize, m: usize, n: usize) -> usize
-    requires { Room BACKWARD at m n }
-    ensures { result ≡ window_at BACKWARD at m }
+    requires room { Room BACKWARD at m n }
+    requires within { at ≤ n }
+    ensures rule { result ≡ window_at BACKWARD at m }
+    ensures inside { result + m ≤ n }
 {
     if BACKWARD { at - m } else { at }
 }
@@ -57,7 +59,8 @@ pub(crate) fn search<const BACKWARD: bool>(
     stepping: bool,
 ) -> Searched
     requires { Start BACKWARD (length needle.now) (length haystack.now) v start }
-    ensures { result ≡ searched_from BACKWARD stepping set v needle.now haystack.now start }
+    ensures rule { result ≡ searched_from BACKWARD stepping set v needle.now haystack.now start }
+    ensures stop { StopFits (length needle.now) result.stop }
 {
     let n = haystack.len();
     let m = needle.len();

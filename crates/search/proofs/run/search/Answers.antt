@@ -1,10 +1,10 @@
 use Rattle.words.specs.Word.{front}
-use Rattle.std.proofs.Common.{refl}
-use Rattle.search.proofs.Loops.{part_passed, no_part_passed, loop_out, loop_passed, loop_hit, loop_next, few_comparisons, window_keeps, room_inside}
+use Rattle.std.proofs.Common.{refl, arith}
+use Rattle.search.proofs.Loops.{part_passed, no_part_passed, loop_out, loop_passed, loop_hit, loop_next, few_comparisons, window_keeps}
 use Rattle.search.proofs.run.search.Goals as goal
 
-pub returns-then-s-start : goal.returns-then-s-start
-returns-then-s-start g c =
+pub returns-then-s-start-clause-rule : goal.returns-then-s-start-clause-rule
+returns-then-s-start-clause-rule g c =
     loop_passed c.loop-v.invariant c.loop-v-test.ensures.rule (part_passed _ _ _ c.if-stepping.true c.if-s-start.true) c.ended.ensures
 
 -- the window's move pays for its comparisons
@@ -15,18 +15,18 @@ overflow_add-comparisons g c =
     record {
       fits = few_comparisons
           (window_keeps _ _ (front c.args.needle.now) (front c.args.haystack.now) c.requires room keeps c.window-w.ensures)
-          (room_inside _ _ _ _ keeps.within room)
+          (omega arith)
           c.requires.small;
     }
 
-pub returns-then-w : goal.returns-then-w
-returns-then-w g c =
-    loop_hit c.loop-v.invariant c.loop-v-test.ensures.rule c.window-w.ensures (no_part_passed _ _ _ c.else-stepping.either) c.window_at-place.ensures c.if-w.true c.ended-then-w.ensures
+pub returns-then-w-clause-rule : goal.returns-then-w-clause-rule
+returns-then-w-clause-rule g c =
+    loop_hit c.loop-v.invariant c.loop-v-test.ensures.rule c.window-w.ensures (no_part_passed _ _ _ c.else-stepping.either) c.window_at-place.ensures.rule c.if-w.true c.ended-then-w.ensures
 
 pub loop-v-preserved : goal.loop-v-preserved
 loop-v-preserved g c =
     loop_next c.loop-v.invariant c.loop-v-test.ensures.rule c.window-w.ensures (no_part_passed _ _ _ c.else-stepping.either) c.if-w.false
     (window_keeps _ _ (front c.args.needle.now) (front c.args.haystack.now) c.requires (c.loop-v-test.ensures.room refl) c.loop-v.invariant.keeps c.window-w.ensures)
 
-pub returns : goal.returns
-returns g c = loop_out c.loop-v.invariant c.loop-v-test.ensures.rule c.far_end.ensures c.ended-2.ensures
+pub returns-clause-rule : goal.returns-clause-rule
+returns-clause-rule g c = loop_out c.loop-v.invariant c.loop-v-test.ensures.rule c.far_end.ensures c.ended-2.ensures
