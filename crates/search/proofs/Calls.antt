@@ -27,6 +27,7 @@ module _ (needle haystack : List ℕ) (f : Fixed) (s : Moving) where
     pub fit : fits needle haystack f s ≡ true
     pub no_overlapping_step : (stepping && overlaps f.mode) ≡ false
 
+  -- each test is split, so that it holds whatever the order of the checks
   pub refusal_passed : (stepping : Bool) → refusal stepping needle haystack f s ≡ Ok tt → Passed stepping
   unfolding refusal fitting
   refusal_passed stepping q = go (lengths (length haystack) (length needle)) (fits needle haystack f s) (stepping && overlaps f.mode) refl refl refl

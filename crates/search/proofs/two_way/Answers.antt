@@ -1,3 +1,5 @@
+-- `search::two_way` meets its contract.
+-- Assumes nothing.
 use Rattle.search.proofs.Calls.{search_start, walked}
 use Rattle.search.proofs.two_way.Goals as goal
 

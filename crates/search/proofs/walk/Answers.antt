@@ -1,3 +1,5 @@
+-- `search::walk` meets its contract.
+-- Assumes nothing.
 use Rattle.search.proofs.Calls.{refused, position_in, went_empty, two_way_start, went_two_way}
 use Rattle.search.proofs.walk.Goals as goal
 
