@@ -9,14 +9,14 @@ use lib.ListN.{length, get_or}
 use borrow.Author.Tests.{eq-eqb, ne_eqb}
 use Rattle.limits.specs.Checks.{Check, lengths}
 use Rattle.limits.specs.Refusals.{number_of}
-use Rattle.limits.specs.Said.{Said, refused, given, LosesNothing}
+use Rattle.limits.specs.Said.{refused, given, LosesNothing}
 use Rattle.limits.specs.declared.Refusal.{Refusal}
 use Rattle.limits.proofs.Said.{said_loses_nothing}
 use Rattle.scan.specs.Scanned.{scan_of}
 use Rattle.scan.specs.declared.Scan.{Scan}
 use Rattle.record.specs.declared.Mode.TheVariants.{NonOverlapping}
 use Rattle.searcher.specs.Walk.{CallTold, new_rule}
-use Rattle.twoway.specs.Find.{position_said, SearchTold, told, of_match, empty_place, match_of, searched, code_of, by_scan, by_walk}
+use Rattle.twoway.specs.Find.{position_said, SearchTold, told, empty_place, match_of, searched, code_of, by_scan, by_walk}
 
 -- ---- answers in other words
 
@@ -44,15 +44,6 @@ module _ (backward : Bool) (text pattern : List ℕ) {c : Check} {r : SearchTold
           → r ≡ by_walk n.counts.preparing m → r ≡ searched backward text pattern
       unfolding searched
       search_longer o en em q = q ∙ rw (em, en, ← checked, pass, ne_eqb _ _ some_letters, ne_eqb _ _ o)
-
--- ---- the two ways to an answer
-
-pub scan_answered : (s : Scan) {p : Said (Option ℕ)} {r : SearchTold} → p ≡ given s.found → r ≡ told p 0 s.comparisons 0 → r ≡ by_scan s
-scan_answered s e q = q ∙ rw e
-
-pub walk_answered : (preparing : ℕ) (m : CallTold (Option (ℕ × ℕ))) {p : Said (Option ℕ)} {r : SearchTold} → p ≡ of_match m.answer → r ≡ told p preparing m.counts.comparisons m.counts.tests
-    → r ≡ by_walk preparing m
-walk_answered preparing m e q = q ∙ rw e
 
 -- ---- what a position says loses nothing
 

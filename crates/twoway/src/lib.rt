@@ -1,7 +1,7 @@
 // Finding a pattern in a text, from the front and from the back, and the same for C.
 #![tactic(auto)]
 
-ghost use Rattle.std.specs.Prelude.{◌≡◌, cond};
+ghost use Rattle.std.specs.Prelude.{◌≡◌};
 ghost use Rattle.limits.specs.Said.{said};
 ghost use Rattle.scan.specs.Scanned.{scan_of};
 ghost use Rattle.searcher.specs.Walk.{told as call_told};
