@@ -1,8 +1,8 @@
--- What a printer shows as it goes: a text in the room, one text behind another, and a form byte by byte.
+-- What a printer shows as it goes: a text in the room, one text behind another, a form byte by byte, and how long a text is.
 -- Assumes nothing.
-use Prim.Native.Nat.{ℕ, suc, ◌+◌, ◌-◌, ◌*◌, ◌<◌, ◌≤◌, min}
+use Prim.Native.Nat.{ℕ, zero, suc, ◌+◌, ◌-◌, ◌*◌, ◌/◌, ◌%◌, ◌^◌, ◌<◌, ◌≤◌, min}
 use mathlib.Core.Path.{◌≡◌, refl, sym, ◌∙◌, ap}
-use mathlib.Core.Bool.{cond}
+use mathlib.Core.Bool.{Bool, true, false, cond}
 use mathlib.Core.List.{List, [], ◌∷◌, ◌++◌, append_assoc}
 use native.Mathlib.Numerals.{add-one}
 use native.Mathlib.Decide.{dec_lt}
@@ -10,11 +10,15 @@ use native.Mathlib.Omega.{arith}
 use borrow.Rule.Slice.PartMut.{put_mid}
 use lib.ListN.{length, get_or, take, drop, set, length-append, length-take, drop_of_length-le}
 use lib.Seq.{paste, drop-cons, set_out, length-sets}
-use Rattle.std.specs.Prelude.{Option, Some, None, is_some}
+use Rattle.std.specs.Prelude.{Option, Some, None, eqb}
+use Rattle.std.specs.Fmt.{decimal}
 use Rattle.std.proofs.lemmas.Slice.{put_mid-paste}
 use Rattle.std.proofs.lemmas.List.{take-append-drop, take_all}
+use Rattle.std.proofs.lemmas.Fmt.{length-decimal-le}
 use Rattle.std.proofs.lemmas.List.Edits.{sets, sets-eq, paste_all}
-use Rattle.printing.specs.Printing.{Prints, spent, left_of, part_text, form_text}
+use Rattle.io.specs.Digits.{hex_digit_ascii, last_digits}
+use Rattle.printing.specs.InRoom.{InRoom}
+use Rattle.printing.specs.Printing.{Prints, hex_text, spent, left_of, part_text, form_text}
 
 -- from the end of the room on nothing is stored
 stores_past : (room : List ℕ) (to : ℕ) (text : List ℕ) → length room ≤ to → sets room to text ≡ room
@@ -94,14 +98,6 @@ form_moves out after form numbers left room t number i r j k h is rest shown so_
     let begun : Same out i (text ++ form_text (drop (k + 1) form) left) room j t = rw whole at so_far in
     (next.0 ∙ begun.0, next.1 ∙ begun.1)
 
--- a number that was spent is one of those that were left
-pub spent_is_left : (b : ℕ) (numbers left : List ℕ) (number : Option ℕ) → number ≡ spent b numbers → left ≡ left_of number numbers
-    → cond (is_some number) 20 1 + 19 * length left ≡ 1 + 19 * length numbers
-unfolding spent
-spent_is_left b numbers left None is rest = rw rest (omega arith)
-spent_is_left b [] left (Some m) is rest = cc
-spent_is_left b (n ∷ numbers) left (Some m) is rest = rw rest (omega arith)
-
 pub form_begins : (room form numbers : List ℕ) (i a : ℕ) → a ≡ min i (length room) → Same room a (form_text form numbers) room i (form_text form numbers)
 form_begins room form numbers i a e = (omega arith, stores_from room (form_text form numbers) i a e)
 
@@ -111,3 +107,49 @@ unfolding form_text
 form_ends room out form numbers text i q k h within same =
     let done : Same out q [] room i text = rw (drop_of_length-le form h) at same in
     (omega (arith, done.0), done.1)
+
+-- ---- how long a text is
+
+-- the last k digits are k bytes
+digits_size : (k n : ℕ) → length (last_digits 16 k n) ≡ k
+digits_size zero n = refl
+digits_size (suc k) n = omega (arith, digits_size k (n / 16), length-append (last_digits 16 k (n / 16)) (hex_digit_ascii (n % 16) ∷ []))
+
+-- a number below 2 ^ 64 is at most 20 bytes: 16 digits in hex, or as many as it has in decimal
+number_size : (hex : Bool) (n : ℕ) → n < 2 ^ 64 → length (cond hex (hex_text n) (decimal n)) ≤ 20
+unfolding hex_text
+number_size true n fits = omega (arith, digits_size 16 n)
+number_size false n fits = length-decimal-le 20 n (omega arith) (omega arith) fits
+
+-- each number fits its type
+abbrev pub Fit : List ℕ → Type 0
+Fit numbers = (i : ℕ) → get_or numbers i 0 < 2 ^ 64
+
+-- what the byte b is printed as, and what is left of the numbers, where it stands for `number`: a byte more at most, and 19 for a number that is spent
+abbrev Spends : ℕ → Option ℕ → List ℕ → Type 0
+Spends b number numbers =
+    (length (part_text number b) + 19 * length (left_of number numbers) ≤ 1 + 19 * length numbers) × Fit (left_of number numbers)
+
+mark_spends : (mark hex : Bool) (b n : ℕ) (numbers : List ℕ) → Fit (n ∷ numbers) → Spends b (cond mark (Some n) (cond hex (Some n) None)) (n ∷ numbers)
+mark_spends true hex b n numbers fit = (omega (arith, number_size (eqb b 37) n (fit 0)), λ i. fit (suc i))
+mark_spends false true b n numbers fit = (omega (arith, number_size (eqb b 37) n (fit 0)), λ i. fit (suc i))
+mark_spends false false b n numbers fit = (omega arith, fit)
+
+byte_spends : (b : ℕ) (numbers : List ℕ) → Fit numbers → Spends b (spent b numbers) numbers
+unfolding spent
+byte_spends b [] fit = (omega arith, fit)
+byte_spends b (n ∷ numbers) fit = mark_spends (eqb b 35) (eqb b 37) b n numbers fit
+
+-- a form in text has at most a byte for each of its own, and 19 more for each number
+pub form_size : (form numbers : List ℕ) → Fit numbers → length (form_text form numbers) ≤ length form + 19 * length numbers
+unfolding form_text
+form_size [] numbers fit = omega arith
+form_size (b ∷ form) numbers fit =
+    let number = spent b numbers in
+    let spends = byte_spends b numbers fit in
+    let left = left_of number numbers in
+    omega (arith, spends.0, form_size form left spends.1, length-append (part_text number b) (form_text form left))
+
+-- what was printed ends within the room, as far on as the text is long
+pub prints_in_room : (room text after : List ℕ) (at most r : ℕ) → Prints room at text after r → at + length text ≤ most → InRoom after most r
+prints_in_room room text after at most r p h = (omega (arith, p.0, ap length p.1, length-sets room at text), omega (arith, p.0))

@@ -2,7 +2,7 @@
 // where the place is before the end.
 #![tactic(auto)]
 
-ghost use Rattle.std.specs.Prelude.{◌≡◌, ◌+◌, ◌*◌, ◌≤◌, length, is_some, cond};
+ghost use Rattle.std.specs.Prelude.{◌≡◌, ◌+◌, ◌*◌, length};
 ghost use Rattle.std.specs.Fmt.{decimal};
 ghost use Rattle.std.specs.Slice.Iter.{iter_rest};
 ghost use Rattle.printing.specs.InRoom.{InRoom};
@@ -12,8 +12,7 @@ use std::slice::Iter;
 
 // Prints `text` at `at`, and gives the place behind it.
 fn put(out: &mut [u8], at: usize, text: &[u8]) -> usize
-    ensures in_room { InRoom out.new (at + length text.now) result }
-    ensures rule { Prints out.old at text.now out.new result }
+    ensures { Prints out.old at text.now out.new result }
 {
     let at = at.min(out.len());
     let fits = text.len().min(out.len() - at);
@@ -23,8 +22,7 @@ fn put(out: &mut [u8], at: usize, text: &[u8]) -> usize
 
 // Prints a number in decimal digits.
 fn put_number(out: &mut [u8], at: usize, n: usize) -> usize
-    ensures in_room { InRoom out.new (at + 20) result }
-    ensures rule { Prints out.old at (decimal n) out.new result }
+    ensures { Prints out.old at (decimal n) out.new result }
 {
     let mut buffer = itoa::Buffer::new();
     put(out, at, buffer.format(n).as_bytes())
@@ -32,8 +30,7 @@ fn put_number(out: &mut [u8], at: usize, n: usize) -> usize
 
 // Prints a set in 16 hex digits.
 fn put_set(out: &mut [u8], at: usize, set: u64) -> usize
-    ensures in_room { InRoom out.new (at + 16) result }
-    ensures rule { Prints out.old at (hex_text set) out.new result }
+    ensures { Prints out.old at (hex_text set) out.new result }
 {
     let mut digits = [0u8; 16];
     let count = io::hex(set, 16, &mut digits);
@@ -54,8 +51,7 @@ fn spend(b: u8, left: &mut Iter<usize>) -> Option<usize>
 
 // Prints a byte of a form, or the number that it stands for: in hex digits for `%`, else in decimal ones.
 fn put_part(out: &mut [u8], at: usize, b: u8, number: Option<usize>) -> usize
-    ensures in_room { InRoom out.new (at + cond (is_some number) 20 1) result }
-    ensures rule { Prints out.old at (part_text number b) out.new result }
+    ensures { Prints out.old at (part_text number b) out.new result }
 {
     match number {
         None => put(out, at, &[b]),

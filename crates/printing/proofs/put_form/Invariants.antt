@@ -1,7 +1,6 @@
--- `printing::put_form` meets its contract. The loop's invariant: the room keeps its length, and the place is within it, at most a byte farther for each byte of the form
--- and 19 more for each number; what is left of the form, printed there, leaves the room that the whole form leaves.
+-- `printing::put_form` meets its contract. The loop's invariant: the place is within the room, and what is left of the form, printed there, leaves the room that the whole form leaves.
 -- Assumes nothing.
-use Prim.Native.Nat.{◌+◌, ◌*◌, ◌≤◌}
+use Prim.Native.Nat.{◌≤◌}
 use lib.ListN.{length, drop}
 use Rattle.std.specs.Slice.Iter.{iter_rest}
 use Rattle.printing.specs.Printing.{form_text}
@@ -11,6 +10,5 @@ use Rattle.printing.proofs.put_form.Given as goal
 abbrev pub invariant-loop-b : goal.invariant-loop-b
 invariant-loop-b l = record {
   within : l.at ≤ length l.out;
-  most : l.at + 19 * length (iter_rest l.left) ≤ l.start + l.b-index + 19 * length l.numbers;
   shown : Same l.out l.at (form_text (drop l.b-index l.form) (iter_rest l.left)) l.initial.out l.start (form_text l.form l.numbers);
 }

@@ -11,8 +11,8 @@ hex_text_is : (set k : ℕ) (t : List ℕ) → k ≡ 16 → t ≡ last_digits 16
 unfolding hex_text
 hex_text_is set k t e is = is ∙ ap (λ (j : ℕ). last_digits 16 j set) e
 
-pub returns-clause-rule : goal.returns-clause-rule
-returns-clause-rule c =
+pub returns : goal.returns
+returns c =
     let hex = c.hex-count in
     let put = c.put in
-    subst (λ (t : List ℕ). Prints c.args.out.now c.args.at t put.new.out put.result) (hex_text_is c.args.set hex.result _ (omega arith) hex.ensures.digits) put.ensures.rule
+    subst (λ (t : List ℕ). Prints c.args.out.now c.args.at t put.new.out put.result) (hex_text_is c.args.set hex.result _ (omega arith) hex.ensures.digits) put.ensures
