@@ -10,7 +10,7 @@ use native.Mathlib.Omega.{arith}
 use borrow.Rule.Slice.PartMut.{put_mid}
 use lib.ListN.{length, get_or, take, drop, set, length-append, length-take, drop_of_length-le}
 use lib.Seq.{paste, drop-cons, set_out, length-sets}
-use Rattle.std.specs.Prelude.{Option, Some, None, eqb}
+use Rattle.std.specs.Prelude.{Option, Some, None, eqb, ⊤}
 use Rattle.std.specs.Fmt.{decimal}
 use Rattle.std.proofs.lemmas.Slice.{put_mid-paste}
 use Rattle.std.proofs.lemmas.List.{take-append-drop, take_all}
@@ -123,7 +123,12 @@ number_size false n fits = length-decimal-le 20 n (omega arith) (omega arith) fi
 
 -- each number fits its type
 abbrev pub Fit : List ℕ → Type 0
-Fit numbers = (i : ℕ) → get_or numbers i 0 < 2 ^ 64
+Fit [] = ⊤
+Fit (n ∷ numbers) = (n < 2 ^ 64) × Fit numbers
+
+pub fit_each : (numbers : List ℕ) → ((i : ℕ) → get_or numbers i 0 < 2 ^ 64) → Fit numbers
+fit_each [] each = tt
+fit_each (n ∷ numbers) each = (each 0, fit_each numbers (λ i. each (suc i)))
 
 -- what the byte b is printed as, and what is left of the numbers, where it stands for `number`: a byte more at most, and 19 for a number that is spent
 abbrev Spends : ℕ → Option ℕ → List ℕ → Type 0
@@ -131,8 +136,8 @@ Spends b number numbers =
     (length (part_text number b) + 19 * length (left_of number numbers) ≤ 1 + 19 * length numbers) × Fit (left_of number numbers)
 
 mark_spends : (mark hex : Bool) (b n : ℕ) (numbers : List ℕ) → Fit (n ∷ numbers) → Spends b (cond mark (Some n) (cond hex (Some n) None)) (n ∷ numbers)
-mark_spends true hex b n numbers fit = (omega (arith, number_size (eqb b 37) n (fit 0)), λ i. fit (suc i))
-mark_spends false true b n numbers fit = (omega (arith, number_size (eqb b 37) n (fit 0)), λ i. fit (suc i))
+mark_spends true hex b n numbers fit = (omega (arith, number_size (eqb b 37) n fit.0), fit.1)
+mark_spends false true b n numbers fit = (omega (arith, number_size (eqb b 37) n fit.0), fit.1)
 mark_spends false false b n numbers fit = (omega arith, fit)
 
 byte_spends : (b : ℕ) (numbers : List ℕ) → Fit numbers → Spends b (spent b numbers) numbers

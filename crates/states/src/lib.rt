@@ -1,7 +1,7 @@
 // The mode and the state of a walk in a case line, read and printed: MODE and STATE of docs/LINES.md.
 #![tactic(auto)]
 
-ghost use Rattle.std.specs.Prelude.{◌≡◌, ◌+◌, length};
+ghost use Rattle.std.specs.Prelude.{◌≡◌, ◌+◌};
 ghost use Rattle.printing.specs.InRoom.{InRoom};
 ghost use Rattle.printing.specs.Printing.{Prints, form_text};
 ghost use Rattle.states.specs.States.{head_at, field_at, two_at, mode_at, ends_at, memory_at, splits_at, flags_at, rest_at, walk_of, state_at, letter_of, begin_text, splits_numbers, two_way_text, empty_text, state_text};
@@ -255,8 +255,7 @@ fn mode_letter(mode: Mode) -> u8
 
 // Prints what all forms begin with, behind a space: the letter, four numbers and the mode.
 fn put_begin(out: &mut [u8], at: usize, w: TwoWaySearcher, letter: u8) -> usize
-    ensures in_room { InRoom out.new (at + 88) result }
-    ensures rule { Prints out.old at (begin_text w letter) out.new result }
+    ensures { Prints out.old at (begin_text w letter) out.new result }
 {
     let TwoWaySearcher { fixed, moving } = w;
     let mode = mode_letter(fixed.mode);
@@ -282,8 +281,7 @@ fn put_splits(
     forward: usize,
     backward: usize,
 ) -> usize
-    ensures in_room { InRoom out.new (at + length form.now + 114) result }
-    ensures rule { Prints out.old at (form_text form.now (splits_numbers fixed forward backward)) out.new result }
+    ensures { Prints out.old at (form_text form.now (splits_numbers fixed forward backward)) out.new result }
 {
     let row = [
         fixed.crit_pos,
@@ -298,8 +296,7 @@ fn put_splits(
 
 // Prints the state of a two way walk, by its memory, and that of an empty needle, with its flags.
 fn put_two_way(out: &mut [u8], at: usize, w: TwoWaySearcher, memory: Memory) -> usize
-    ensures in_room { InRoom out.new (at + 214) result }
-    ensures rule { Prints out.old at (two_way_text w memory) out.new result }
+    ensures { Prints out.old at (two_way_text w memory) out.new result }
 {
     let fixed = w.fixed;
     match memory {
@@ -315,8 +312,7 @@ fn put_two_way(out: &mut [u8], at: usize, w: TwoWaySearcher, memory: Memory) -> 
 }
 
 fn put_empty(out: &mut [u8], at: usize, w: TwoWaySearcher, forward: bool, backward: bool) -> usize
-    ensures in_room { InRoom out.new (at + 214) result }
-    ensures rule { Prints out.old at (empty_text w forward backward) out.new result }
+    ensures { Prints out.old at (empty_text w forward backward) out.new result }
 {
     let row = [forward as usize, backward as usize];
     let at = put_begin(out, at, w, b'E');

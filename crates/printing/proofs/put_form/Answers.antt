@@ -1,5 +1,5 @@
 use native.Mathlib.Omega.{arith}
-use Rattle.printing.proofs.Laws.{form_begins, form_moves, form_ends, form_size, prints_in_room}
+use Rattle.printing.proofs.Laws.{form_begins, form_moves, form_ends, form_size, fit_each, prints_in_room}
 use Rattle.printing.proofs.put_form.Goals as goal
 
 pub loop-b-init : goal.loop-b-init
@@ -21,8 +21,9 @@ loop-b-preserved c =
 pub returns : goal.returns
 returns c =
     let a = c.args in
+    let fit = fit_each a.numbers.now (λ i. omega (arith, c.type_inv.numbers i)) in
     let shown = form_ends _ _ a.form.now _ _ a.start c.loop-b.at _ c.loop-b-test.false c.loop-b.invariant.within c.loop-b.invariant.shown in
     record {
-      in_room = prints_in_room _ _ _ _ _ _ shown (omega (arith, form_size a.form.now a.numbers.now (λ i. omega (arith, c.type_inv.numbers i))));
+      in_room = prints_in_room _ _ _ _ _ _ shown (omega (arith, form_size a.form.now a.numbers.now fit));
       rule = shown;
     }

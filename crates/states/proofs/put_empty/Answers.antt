@@ -3,5 +3,5 @@
 use Rattle.printing.proofs.Laws.{prints_both}
 use Rattle.states.proofs.put_empty.Goals as goal
 
-pub returns-clause-rule : goal.returns-clause-rule
-returns-clause-rule c = prints_both _ _ _ _ _ _ _ _ c.put_begin-at.ensures.rule c.put_form.ensures.rule
+pub returns : goal.returns
+returns c = prints_both _ _ _ _ _ _ _ _ c.put_begin-at.ensures c.put_form.ensures.rule
