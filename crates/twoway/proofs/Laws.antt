@@ -1,17 +1,17 @@
 -- What each return of this crate's functions has to show, and that what a position says loses nothing.
 -- Assumes nothing.
 use Prim.Native.Nat.{ℕ}
-use mathlib.Core.Path.{◌≡◌, ◌∙◌}
+use mathlib.Core.Path.{◌≡◌, refl, ◌∙◌, ap}
 use mathlib.Core.Bool.{Bool}
 use mathlib.Core.List.{List}
-use Rattle.std.specs.Prelude.{Option, Some, Ok, Err}
+use Rattle.std.specs.Prelude.{Option, None, Some, Result, Ok, Err}
 use lib.ListN.{length, get_or}
 use borrow.Author.Tests.{eq-eqb, ne_eqb}
 use Rattle.limits.specs.Checks.{Check, lengths}
 use Rattle.limits.specs.Refusals.{number_of}
-use Rattle.limits.specs.Said.{refused, given, LosesNothing}
+use Rattle.limits.specs.Said.{Said, refused, given, LosesNothing}
 use Rattle.limits.specs.declared.Refusal.{Refusal}
-use Rattle.limits.proofs.Said.{said_loses_nothing}
+use Rattle.limits.proofs.Said.{by_way_back, refusal_of, refusal_again}
 use Rattle.scan.specs.Scanned.{scan_of}
 use Rattle.scan.specs.declared.Scan.{Scan}
 use Rattle.record.specs.declared.Mode.TheVariants.{NonOverlapping}
@@ -48,4 +48,13 @@ module _ (backward : Bool) (text pattern : List ℕ) {c : Check} {r : SearchTold
 -- ---- what a position says loses nothing
 
 pub position_loses_nothing : LosesNothing position_said
-position_loses_nothing = said_loses_nothing
+position_loses_nothing = by_way_back position_said back_to again
+  where
+    back_to : Said (Option ℕ) → Result (Option ℕ) Refusal
+    back_to (given place) = Ok place
+    back_to (refused number) = Err (refusal_of number)
+
+    again : (a : Result (Option ℕ) Refusal) → back_to (position_said a) ≡ a
+    again (Ok (Some k)) = refl
+    again (Ok None) = refl
+    again (Err why) = ap (λ w. Err w) (refusal_again why)

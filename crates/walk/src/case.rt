@@ -119,7 +119,7 @@ fn read<'a>(line: &'a [u8], first: &mut [u8], second: &mut [u8]) -> Option<Case<
 }
 
 // Prints the answer to a line. What is malformed or too long is answered by `bad line`.
-pub(crate) fn answer(out: &mut Vec<u8>, line: &[u8]) -> io::Result<()> {
+pub(crate) fn answer(out: &mut impl Write, line: &[u8]) -> io::Result<()> {
     let mut first = [0u8; WORD_BYTES];
     let mut second = [0u8; WORD_BYTES];
     let Some(case) = read(line, &mut first, &mut second) else {

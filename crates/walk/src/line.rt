@@ -1,44 +1,46 @@
 // What is kept of the line that is being read.
-ghost use Rattle.std.specs.Prelude.{◌≤◌, vec_len};
+ghost use Rattle.std.specs.Prelude.{◌≤◌};
 ghost use Rattle.walk.specs.declared.line.TheConstants.{ROOM};
 
 use crate::case;
-use std::alloc::{AllocError, Global};
 
 // The most bytes that are kept. A line may have a carriage return behind it, and is too long if it fills the rest too.
 const ROOM: usize = case::LINE_BYTES + 2;
 
 #[derive(Drop)]
 pub(crate) struct Line {
-    kept: Vec<u8>,
-    ghost within: { vec_len kept ≤ ROOM },
+    room: [u8; ROOM],
+    len: usize,
+    ghost within: { len ≤ ROOM },
 }
 
 impl Line {
-    pub(crate) fn new(alloc: Global) -> Result<Line, AllocError> {
-        let kept = Vec::with_capacity(alloc, ROOM)?;
-        Ok(Line { kept })
+    pub(crate) fn new() -> Line {
+        Line {
+            room: [0; ROOM],
+            len: 0,
+        }
     }
 
     // Puts a byte behind what there is. Of a line that is too long the rest is left out.
-    pub(crate) fn keep(&mut self, b: u8) -> Result<(), AllocError> {
-        if self.kept.len() < ROOM {
-            self.kept.push(b)?;
+    pub(crate) fn keep(&mut self, b: u8) {
+        if self.len < ROOM {
+            self.room[self.len] = b;
+            self.len += 1;
         }
-        Ok(())
     }
 
     pub(crate) fn is_empty(&self) -> bool {
-        self.kept.is_empty()
+        self.len == 0
     }
 
     pub(crate) fn clear(&mut self) {
-        self.kept.clear();
+        self.len = 0;
     }
 
     // The line, without a carriage return at its end.
     pub(crate) fn text(&self) -> &[u8] {
-        let kept = self.kept.as_slice();
+        let kept = &self.room[..self.len];
         kept.strip_suffix(b"\r").unwrap_or(kept)
     }
 }

@@ -6,31 +6,31 @@ mod case;
 mod front;
 mod kind;
 mod line;
+mod page;
 mod reply;
 
 use line::Line;
-use std::alloc::Global;
+use page::Page;
 use std::io::{self, Read, Write};
 
 // The most bytes that are read at once.
 const PART_BYTES: usize = 4096;
 
-// Answers a line, in one write.
-fn answer(alloc: Global, output: &mut impl Write, line: &Line) -> io::Result<()> {
-    let mut text = Vec::new(alloc);
-    case::answer(&mut text, line.text())?;
-    text.push(b'\n')?;
-    output.write_all(&text)
+// Answers a line.
+fn answer(output: &mut impl Write, line: &Line) -> io::Result<()> {
+    case::answer(output, line.text())?;
+    output.write_all(b"\n")?;
+    output.flush()
 }
 
 // Takes a part of the input in, and answers each line that it ends. What is then in `line` is the next line's.
-fn take(alloc: Global, output: &mut impl Write, part: &[u8], line: &mut Line) -> io::Result<()> {
+fn take(output: &mut impl Write, part: &[u8], line: &mut Line) -> io::Result<()> {
     for b in part {
         if *b != b'\n' {
-            line.keep(*b)?;
+            line.keep(*b);
             continue;
         }
-        answer(alloc, output, line)?;
+        answer(output, line)?;
         line.clear();
     }
     Ok(())
@@ -38,22 +38,22 @@ fn take(alloc: Global, output: &mut impl Write, part: &[u8], line: &mut Line) ->
 
 // A proved loop has to end, and nothing says that the input does. So it counts its reads, up to a number that no run uses up. At the
 // end of the input, what there is of a line is a line.
-fn run(alloc: Global, input: &mut impl Read, output: &mut impl Write) -> io::Result<()> {
-    let mut line = Line::new(alloc)?;
+fn run(input: &mut impl Read, output: &mut impl Write) -> io::Result<()> {
+    let mut line = Line::new();
     let mut part = [0u8; PART_BYTES];
     for _ in 0..u64::MAX {
         let n = input.read(&mut part)?;
         if n == 0 {
             break;
         }
-        take(alloc, output, &part[..n], &mut line)?;
+        take(output, &part[..n], &mut line)?;
     }
     if !line.is_empty() {
-        answer(alloc, output, &line)?;
+        answer(output, &line)?;
     }
     Ok(())
 }
 
 fn main(rt: HostRuntime) -> io::Result<()> {
-    run(rt.alloc(), &mut rt.reader(), &mut io::writer(&rt))
+    run(&mut rt.reader(), &mut Page::new(io::writer(&rt)))
 }

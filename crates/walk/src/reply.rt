@@ -8,27 +8,32 @@ use std::io::{self, Write};
 use suffix::{ReverseSuffix, Suffix};
 use twoway::Answer;
 
-// A state has no more bytes, with the space before it.
-const STATE_BYTES: usize = 214;
+// A state has fewer bytes, with the space before it.
+const STATE_BYTES: usize = 215;
 
-fn put_refused(out: &mut Vec<u8>, why: Refusal) -> io::Result<()> {
+fn put_refused(out: &mut impl Write, why: Refusal) -> io::Result<()> {
     write!(out, "{}", Front::Refused(why))
 }
 
-fn put_state(out: &mut Vec<u8>, walk: TwoWaySearcher) -> io::Result<()> {
+fn put_state(out: &mut impl Write, walk: TwoWaySearcher) -> io::Result<()> {
     let mut room = [0u8; STATE_BYTES];
     let end = states::put_state(&mut room, 0, walk);
+    // All of it was printed, since the place behind it is before the end.
+    prove!(end < STATE_BYTES);
     out.write_all(&room[..end])
 }
 
-fn put_suffix(out: &mut Vec<u8>, answer: Result<Suffix, Refusal>) -> io::Result<()> {
+fn put_suffix(out: &mut impl Write, answer: Result<Suffix, Refusal>) -> io::Result<()> {
     match answer {
         Ok(s) => write!(out, "ok {} {} {}", s.start, s.period, s.rounds),
         Err(why) => put_refused(out, why),
     }
 }
 
-fn put_reverse_suffix(out: &mut Vec<u8>, answer: Result<ReverseSuffix, Refusal>) -> io::Result<()> {
+fn put_reverse_suffix(
+    out: &mut impl Write,
+    answer: Result<ReverseSuffix, Refusal>,
+) -> io::Result<()> {
     match answer {
         Ok(s) => write!(out, "ok {} {}", s.start, s.rounds),
         Err(why) => put_refused(out, why),
@@ -36,7 +41,7 @@ fn put_reverse_suffix(out: &mut Vec<u8>, answer: Result<ReverseSuffix, Refusal>)
 }
 
 // A refused search has no counts.
-fn put_found(out: &mut Vec<u8>, r: Answer) -> io::Result<()> {
+fn put_found(out: &mut impl Write, r: Answer) -> io::Result<()> {
     match r.position {
         Ok(place) => write!(
             out,
@@ -51,7 +56,7 @@ fn put_found(out: &mut Vec<u8>, r: Answer) -> io::Result<()> {
 }
 
 // Nor has a refused preparing, and no state.
-fn put_prepared(out: &mut Vec<u8>, p: Prepared) -> io::Result<()> {
+fn put_prepared(out: &mut impl Write, p: Prepared) -> io::Result<()> {
     match p.answer {
         Ok(()) => {
             write!(out, "ok")?;
@@ -64,7 +69,7 @@ fn put_prepared(out: &mut Vec<u8>, p: Prepared) -> io::Result<()> {
 
 // One call in a handed-in state.
 fn put_call(
-    out: &mut Vec<u8>,
+    out: &mut impl Write,
     call: Call,
     walk: TwoWaySearcher,
     haystack: &[u8],
@@ -78,7 +83,7 @@ fn put_call(
 
 // A walk from preparing on, by each letter of a script: RESULT/COMPARISONS/TESTS for each, and the last state.
 fn put_walk(
-    out: &mut Vec<u8>,
+    out: &mut impl Write,
     mode: Mode,
     script: &[u8],
     haystack: &[u8],
@@ -104,7 +109,7 @@ fn put_walk(
 }
 
 pub(crate) fn put(
-    out: &mut Vec<u8>,
+    out: &mut impl Write,
     asked: Asked<'_>,
     needle: &[u8],
     haystack: &[u8],
