@@ -1,7 +1,5 @@
-// What is written, in parts of a room, so that an answer goes out at once.
-ghost use Rattle.std.specs.Prelude.{◌≤◌};
-ghost use Rattle.walk.specs.declared.page.TheConstants.{ROOM};
-
+// What is written, in a room, so that an answer goes out at once.
+use crate::room::Room;
 use std::io::{self, Write};
 
 // An answer has fewer bytes: a walk with the longest script, if each call of it had three counts, and each number 20 digits. What is
@@ -11,37 +9,29 @@ const ROOM: usize = 29000;
 #[derive(Drop)]
 pub(crate) struct Page<W: Write> {
     output: W,
-    room: [u8; ROOM],
-    len: usize,
-    ghost within: { len ≤ ROOM },
+    room: Room<ROOM>,
 }
 
 impl<W: Write> Page<W> {
     pub(crate) fn new(output: W) -> Page<W> {
-        Page {
-            output,
-            room: [0; ROOM],
-            len: 0,
-        }
+        let room = Room::new();
+        Page { output, room }
     }
 }
 
 impl<W: Write> Write for Page<W> {
     // Takes what there is room for.
     fn write(&mut self, buf: &[u8]) -> io::Result<usize> {
-        if self.len == ROOM {
+        if self.room.is_full() {
             self.flush()?;
         }
-        let from = self.len;
-        let n = buf.len().min(ROOM - from);
-        self.room[from..from + n].copy_from_slice(&buf[..n]);
-        self.len = from + n;
-        Ok(n)
+        Ok(self.room.put(buf))
     }
 
+    // What can't be written is given up, and the error says so.
     fn flush(&mut self) -> io::Result<()> {
-        let len = self.len;
-        self.len = 0;
-        self.output.write_all(&self.room[..len])
+        let sent = self.output.write_all(self.room.bytes());
+        self.room.clear();
+        sent
     }
 }
