@@ -1,21 +1,21 @@
 -- The rounds find the maximal suffix and its smallest period, in at most twice the word's size; and they still do if they stop at a period of the whole word.
 -- Assumes nothing.
-use Prim.Native.Nat.{ℕ, zero, suc, ◌+◌, ◌-◌, ◌*◌, ◌<◌, ◌≤◌}
+use Prim.Native.Nat.{ℕ, zero, suc, ◌+◌, ◌*◌, ◌<◌, ◌≤◌}
 use mathlib.Core.Path.{◌≡◌, refl, sym, subst}
 use mathlib.Core.Bool.{Bool, true, false, cond, false≢true}
 use Rattle.std.specs.Prelude.{Option, None, Some}
 use native.Mathlib.Omega.{arith}
 use native.Mathlib.Decide.{dec_lt}
-use lib.Dec.{ltb, eqb}
+use lib.Dec.{ltb}
 use borrow.Author.Tests.{ltb-true, ltb-false, eqb-true, eqb-false}
 use Rattle.words.specs.Word.{Word}
 use Rattle.words.specs.Period.{Period}
 use Rattle.words.specs.Order.{Below, below}
 use Rattle.words.proofs.Decided.{below_decided}
-use Rattle.suffix.specs.Rounds.{round_on, round, run, out, stops, start, rounds}
+use Rattle.suffix.specs.Rounds.{round, run, out, stops, start, rounds}
 use Rattle.suffix.specs.Answer.{IsFound}
 use Rattle.suffix.specs.declared.State.{State}
-use Rattle.suffix.proofs.Steps.{potential, run_stop}
+use Rattle.suffix.proofs.Steps.{potential, by_round, run_stop}
 use Rattle.suffix.proofs.Invariant.{Inv, first, same_on, same_wrap, lower, higher, later, is_period, smallest}
 
 not_below : (g : Bool) (a b : ℕ) → below g a b ≡ false → (a ≡ b → ⊥) → Below g b a
@@ -28,31 +28,14 @@ module _ (g : Bool) (x : Word) where
 
   -- a round keeps the invariant, and the potential rises
   step : (s : State) → Holds s → s.right + s.offset < x.size → Holds (round g x s) × (potential s < potential (round g x s))
-  unfolding round_on
-  step s v h = go (below g a b) (eqb a b) (eqb (s.offset + 1) s.period) refl refl refl
-    where
-      a : ℕ
-      a = x.letter (s.right + s.offset)
-
-      b : ℕ
-      b = x.letter (s.left + s.offset)
-
-      up : State → Type 0
-      up t = Holds t × (potential s < potential t)
-
-      go : (t u z : Bool) → below g a b ≡ t → eqb a b ≡ u → eqb (s.offset + 1) s.period ≡ z → up
-          (cond t
-          (record { left = s.left; right = s.right + (s.offset + 1); offset = 0; period = s.right + (s.offset + 1) - s.left })
-          (cond u
-          (cond z
-          (record { left = s.left; right = s.right + (s.offset + 1); offset = 0; period = s.period })
-          (record { left = s.left; right = s.right; offset = s.offset + 1; period = s.period }))
-          (record { left = s.right; right = s.right + 1; offset = 0; period = 1 })))
-      go true u z et eu ez = (lower _ _ _ _ _ _ v h ((below_decided g a b).sound et), omega arith)
-      go false true true et eu ez = (same_wrap _ _ _ _ _ _ v h (eqb-true a b eu) (eqb-true _ _ ez), omega arith)
-      go false true false et eu ez = (same_on _ _ _ _ _ _ v h (eqb-true a b eu) (eqb-false _ _ ez), omega arith)
-      go false false z et eu ez =
-          (higher _ _ _ _ _ _ v h (not_below g a b et (eqb-false a b eu)), omega arith)
+  step s v h =
+      let a : ℕ = x.letter (s.right + s.offset) in
+      let b : ℕ = x.letter (s.left + s.offset) in
+      by_round (λ (t : State). Holds t × (potential s < potential t)) g a b s
+      (λ e. (lower _ _ _ _ _ _ v h ((below_decided g a b).sound e), omega arith))
+      (λ e z. (same_wrap _ _ _ _ _ _ v h (eqb-true a b e) (eqb-true _ _ z), omega arith))
+      (λ e z. (same_on _ _ _ _ _ _ v h (eqb-true a b e) (eqb-false _ _ z), omega arith))
+      (λ e u. (higher _ _ _ _ _ _ v h (not_below g a b e (eqb-false a b u)), omega arith))
 
   -- a state whose period holds up to the end of the word
   stopped : (s : State) (k : ℕ) → 0 < x.size → Holds s → ((i j : ℕ) → s.left ≤ i → j ≡ i + s.period → j < x.size → x.letter i ≡ x.letter j) → k + 1 ≤ potential s → IsFound g x (out s k)

@@ -48,11 +48,18 @@ pub record Moved (s t : State) : Type 0 where
   pub rises : potential s < potential t
   pub far : t.right + t.offset ≤ s.right + s.offset + 1
 
-pub moved : (g : Bool) (a b : ℕ) (s : State) → Sound s → Moved s (round_on g a b s)
+-- what holds of a round is shown of each state that it can leave, by the tests that lead there: the new letter is lower, it is the same
+-- and ends the period, it is the same, it is higher
+pub by_round : (P : State → Type 0) (g : Bool) (a b : ℕ) (s : State)
+    → (below g a b ≡ true → P (record { left = s.left; right = s.right + (s.offset + 1); offset = 0; period = s.right + (s.offset + 1) - s.left }))
+    → (eqb a b ≡ true → eqb (s.offset + 1) s.period ≡ true → P (record { left = s.left; right = s.right + (s.offset + 1); offset = 0; period = s.period }))
+    → (eqb a b ≡ true → eqb (s.offset + 1) s.period ≡ false → P (record { left = s.left; right = s.right; offset = s.offset + 1; period = s.period }))
+    → (below g a b ≡ false → eqb a b ≡ false → P (record { left = s.right; right = s.right + 1; offset = 0; period = 1 }))
+    → P (round_on g a b s)
 unfolding round_on
-moved g a b s v = go (below g a b) (eqb a b) (eqb (s.offset + 1) s.period) refl
+by_round P g a b s lower wrap on higher = go (below g a b) (eqb a b) (eqb (s.offset + 1) s.period) refl refl refl
   where
-    go : (t u z : Bool) → eqb (s.offset + 1) s.period ≡ z → Moved s
+    go : (t u z : Bool) → below g a b ≡ t → eqb a b ≡ u → eqb (s.offset + 1) s.period ≡ z → P
         (cond t
         (record { left = s.left; right = s.right + (s.offset + 1); offset = 0; period = s.right + (s.offset + 1) - s.left })
         (cond u
@@ -60,10 +67,18 @@ moved g a b s v = go (below g a b) (eqb a b) (eqb (s.offset + 1) s.period) refl
         (record { left = s.left; right = s.right + (s.offset + 1); offset = 0; period = s.period })
         (record { left = s.left; right = s.right; offset = s.offset + 1; period = s.period }))
         (record { left = s.right; right = s.right + 1; offset = 0; period = 1 })))
-    go true u z ez = omega arith
-    go false true true ez = omega arith
-    go false true false ez = let n = eqb-false (s.offset + 1) s.period ez in omega arith
-    go false false z ez = omega arith
+    go true u z et eu ez = lower et
+    go false true true et eu ez = wrap eu ez
+    go false true false et eu ez = on eu ez
+    go false false z et eu ez = higher et eu
+
+pub moved : (g : Bool) (a b : ℕ) (s : State) → Sound s → Moved s (round_on g a b s)
+moved g a b s v =
+    by_round (Moved s) g a b s
+    (λ e. omega arith)
+    (λ e z. omega arith)
+    (λ e z. let n = eqb-false (s.offset + 1) s.period z in omega arith)
+    (λ e u. omega arith)
 
 -- the rounds are at most as many as there is fuel for, and that is twice the word's size
 module _ (g : Bool) (x : Word) (known : Option ℕ) where
