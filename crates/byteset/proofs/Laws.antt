@@ -9,7 +9,7 @@ use mathlib.Core.List.{List, [], ◌∷◌}
 use native.Mathlib.Nat.{zero-div, div-eq_of_lt, div_self, mul-mod_left, pow-suc}
 use native.Mathlib.Omega.{arith}
 use native.Mathlib.Decide.{dec_lt, ℕ_discrete}
-use lib.Bits.{bit_and, bit_or, or_comm, or_shr, or_step, and_mask}
+use lib.Bits.{bit_and, bit_or, or_comm, or_shr, or_step, and_mask, mask_lt}
 use lib.Pow.{pow-add, pow_pos, pow-lt, shl-shr}
 use lib.Dec.{eqb}
 use lib.ListN.{length, get_or, take}
@@ -103,6 +103,11 @@ pub never_no : (bytes : List ℕ) (i : ℕ) → i < length bytes → has (finger
 never_no bytes i h = (has_decided bytes (get_or bytes i 0)).complete (record { place = i; within = h; same = refl })
 
 -- ---- the ways through the code
+
+-- a bit is one of a set's 64
+pub bit_lt : (b : ℕ) → bit_of b < 64
+unfolding bit_of
+bit_lt b = mask_lt b 6
 
 -- what byteset_create folds over the bytes
 abbrev pub folded : ℕ → List ℕ → ℕ
