@@ -1,12 +1,15 @@
 -- What a reader shows as it goes, one law for each way through its loop.
 -- Assumes nothing.
-use Prim.Native.Nat.{ℕ, zero, suc, ◌+◌, ◌-◌, ◌<◌, ◌≤◌}
+use Prim.Native.Nat.{ℕ, zero, suc, ◌+◌, ◌-◌, ◌*◌, ◌^◌, ◌<◌, ◌≤◌}
 use mathlib.Core.Path.{◌≡◌, refl, sym, ap}
 use mathlib.Core.List.{List, [], ◌∷◌}
+use native.Mathlib.Nat.{pow-le-pow_right}
 use native.Mathlib.Numerals.{add-one}
 use native.Mathlib.Omega.{arith}
 use lib.ListN.{length, get_or, drop, set, length-set, drop_of_length-le}
+use lib.Pow.{pow-add}
 use lib.Seq.{drop-cons, sets}
+use borrow.Author.Tests.{lt-ltb}
 use Rattle.std.specs.Prelude.{Some, None}
 use Rattle.lines.specs.declared.Read.{Read}
 use Rattle.fields.specs.Fields.{digit_of, with_digit, digits_from, byte_at, bytes_from}
@@ -32,6 +35,20 @@ module _ (s : List ℕ) (base k : ℕ) (r : Read ℕ) (place : r.next ≡ k) whe
   unfolding digits_from
   digits_end zero h = whole
   digits_end (suc left) h = let past : length s ≤ k = h (omega arith) in rw (drop_of_length-le s past) whole
+
+-- a set's digits: a value of `left` hex digits fewer than 16, and one digit more, which always fits
+module _ (v d left : ℕ) (below : v < 2 ^ (4 * (16 - left))) (more : 0 < left) (most : left ≤ 16) (small : d < 16) where
+  pub hex_below : v * 16 + d < 2 ^ (4 * (16 - (left - 1)))
+  hex_below =
+      let e : 4 * (16 - (left - 1)) ≡ 4 * (16 - left) + 4 = omega arith in
+      rw (e, pow-add 2 (4 * (16 - left)) 4) (omega arith)
+
+  pub hex_digit : with_digit 16 v (Some d) ≡ Some (v * 16 + d)
+  unfolding with_digit
+  hex_digit =
+      let room : 2 ^ (4 * (16 - (left - 1))) ≤ 2 ^ 64 = pow-le-pow_right (omega arith) {i = 4 * (16 - (left - 1))} {j = 64} (omega arith) in
+      let whole = hex_below in
+      rw (lt-ltb d 16 small, lt-ltb (v * 16 + d) (2 ^ 64) (omega arith))
 
 -- bytes are read on at k, and they stop there
 pub bytes_next : (s : List ℕ) (n k b : ℕ) → 0 < n → byte_at s k ≡ Some b → bytes_from n s k ≡ b ∷ bytes_from (n - 1) s (k + 2)

@@ -98,8 +98,8 @@ form_moves out after form numbers left room t number i r j k h is rest shown so_
     let begun : Same out i (text ++ form_text (drop (k + 1) form) left) room j t = rw whole at so_far in
     (next.0 ∙ begun.0, next.1 ∙ begun.1)
 
-pub form_begins : (room form numbers : List ℕ) (i a : ℕ) → a ≡ min i (length room) → Same room a (form_text form numbers) room i (form_text form numbers)
-form_begins room form numbers i a e = (omega arith, stores_from room (form_text form numbers) i a e)
+pub form_begins : (room t : List ℕ) (i a : ℕ) → a ≡ min i (length room) → Same room a t room i t
+form_begins room t i a e = (omega arith, stores_from room t i a e)
 
 pub form_ends : (room out form numbers text : List ℕ) (i q k : ℕ) → length form ≤ k → q ≤ length out
     → Same out q (form_text (drop k form) numbers) room i text → Prints room i text out q

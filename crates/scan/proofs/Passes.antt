@@ -72,6 +72,11 @@ read text backward = cond backward (back text) (front text)
 abbrev pub start : List ℕ → Bool → ℕ → ℕ → ℕ
 start text backward width k = cond backward (length text - k - width) k
 
+-- they lie within the text
+pub start_inside : (text : List ℕ) (backward : Bool) {width k from : ℕ} → width ≤ length text - k → k ≤ length text → from ≡ start text backward width k → from + width ≤ length text
+start_inside text true h i q = omega arith
+start_inside text false h i q = omega arith
+
 module _ (x : ℕ) (text : List ℕ) where
   long : (from width : ℕ) → from + width ≤ length text → length (between text from (from + width)) ≡ width
   long from width h = let e = length-drop from text in length-take-le (from + width - from) (drop from text) (omega arith) ∙ omega arith
@@ -85,7 +90,7 @@ module _ (x : ℕ) (text : List ℕ) where
       let from = length text - k - width in
       record {
         inside = h;
-        long = long from width (omega arith);
+        long = long from width (start_inside text true {width = width} {k = k} (omega arith) (omega arith) refl);
         turn = λ i. width - (1 + i);
         turned = λ i hi. omega arith;
         again = λ i hi. omega arith;

@@ -1,4 +1,5 @@
 use native.Mathlib.Omega.{arith}
+use Rattle.printing.specs.Printing.{form_text}
 use Rattle.printing.proofs.Laws.{form_begins, form_moves, form_ends, form_size, fit_each, prints_in_room}
 use Rattle.printing.proofs.put_form.Goals as goal
 
@@ -7,7 +8,7 @@ loop-b-init c =
     let rest = c.iter-left.ensures.rest in
     record {
       within = omega arith;
-      shown = rw rest (form_begins c.args.out.now c.args.form.now c.args.numbers.now c.args.start c.min-at.result c.min-at.ensures);
+      shown = rw rest (form_begins c.args.out.now (form_text c.args.form.now c.args.numbers.now) c.args.start c.min-at.result c.min-at.ensures);
     }
 
 pub loop-b-preserved : goal.loop-b-preserved
