@@ -21,7 +21,7 @@ use Rattle.printing.specs.InRoom.{InRoom}
 use Rattle.printing.specs.Printing.{Prints, hex_text, spent, left_of, part_text, form_text}
 
 -- from the end of the room on nothing is stored
-stores_past : (room : List ℕ) (to : ℕ) (text : List ℕ) → length room ≤ to → sets room to text ≡ room
+pub stores_past : (room : List ℕ) (to : ℕ) (text : List ℕ) → length room ≤ to → sets room to text ≡ room
 stores_past room to [] h = refl
 stores_past room to (b ∷ text) h = rw (set_out room to b h) (stores_past room (suc to) text (omega arith))
 
@@ -69,7 +69,7 @@ abbrev pub Same : List ℕ → ℕ → List ℕ → List ℕ → ℕ → List �
 Same l i s m j t = (min (i + length s) (length l) ≡ min (j + length t) (length m)) × (sets l i s ≡ sets m j t)
 
 -- what is printed behind a text, as good as both printed where the text begins
-prints_then : (room a mid b : List ℕ) (i q : ℕ) → Prints room i a mid q → Same mid q b room i (a ++ b)
+pub prints_then : (room a mid b : List ℕ) (i q : ℕ) → Prints room i a mid q → Same mid q b room i (a ++ b)
 prints_then room a mid b i q p =
     let size : length mid ≡ length room = ap length p.1 ∙ length-sets room i a in
     let both : length (a ++ b) ≡ length a + length b = length-append a b in (

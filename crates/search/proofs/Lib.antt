@@ -1,3 +1,4 @@
 pub mod Agreeing
 pub mod Loops
+pub mod Inside
 pub mod Calls

@@ -63,7 +63,7 @@ pub few_comparisons : {backward : Bool} {v : Plan} {m n : ℕ} {start s : Cursor
 few_comparisons k short small = let p = k.spent in omega arith
 
 -- every test moved on
-few_tests : {backward : Bool} {v : Plan} {m n : ℕ} {start s : Cursor} {d t : ℕ} → Keeps backward v m n start s d t → t ≤ n
+pub few_tests : {backward : Bool} {v : Plan} {m n : ℕ} {start s : Cursor} {d t : ℕ} → Keeps backward v m n start s d t → t ≤ n
 few_tests k = let p = k.spent in omega arith
 
 module _ {backward stepping : Bool} {has : ℕ → Bool} {v : Plan} {x h : Word} {start s : Cursor} {d t : ℕ}
@@ -106,7 +106,7 @@ module _ {backward stepping : Bool} {has : ℕ → Bool} {v : Plan} {x h : Word}
 
 -- ---- what a window keeps
 
-forward_keeps : (has : ℕ → Bool) (x h : Word) {v : Plan} {start s : Cursor} {d t : ℕ} {u : Outcome} → Shape v x.size → s.at + x.size ≤ h.size
+pub forward_keeps : (has : ℕ → Bool) (x h : Word) {v : Plan} {start s : Cursor} {d t : ℕ} {u : Outcome} → Shape v x.size → s.at + x.size ≤ h.size
     → Keeps false v x.size h.size start s d t → u ≡ forward_window has v x h s
     → Keeps false v x.size h.size start u.next (d + u.comparisons) (t + 1)
 forward_keeps has x h {v} {start} {s} {d} {t} shape room k made =
@@ -123,7 +123,7 @@ mirrored_is m n s s' t =
 mirrored_room : (at m n : ℕ) → m ≤ at → at ≤ n → n - at + m ≤ n
 mirrored_room at m n a b = omega arith
 
-backward_keeps : (has : ℕ → Bool) (x h : Word) {v : Plan} {start s : Cursor} {d t : ℕ} {u : Outcome} → BackShape v x.size → Shape (mirrored_plan x.size v) x.size → x.size ≤ s.at
+pub backward_keeps : (has : ℕ → Bool) (x h : Word) {v : Plan} {start s : Cursor} {d t : ℕ} {u : Outcome} → BackShape v x.size → Shape (mirrored_plan x.size v) x.size → x.size ≤ s.at
     → Keeps true v x.size h.size start s d t → u ≡ backward_window has v x h s
     → Keeps true v x.size h.size start u.next (d + u.comparisons) (t + 1)
 backward_keeps has x h {v} {start} {s} {d} {t} {u} fits shape room k made =
