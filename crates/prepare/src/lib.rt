@@ -70,7 +70,7 @@ impl Needle<'_> {
         let m = self.bytes.len();
         let lower = self.reverse_maximal(p, false);
         let higher = self.reverse_maximal(p, true);
-        let later = lower.start.max(higher.start);
+        let later = number::larger(lower.start, higher.start);
         let fixed = Fixed {
             needle_len: m,
             haystack_len: n,
@@ -105,7 +105,7 @@ impl Needle<'_> {
             mode,
             crit_pos: c,
             crit_pos_back: c,
-            period: c.max(m - c) + 1,
+            period: number::larger(c, m - c) + 1,
             byteset: byteset::byteset_create(self.bytes),
         };
         prepared(fixed, Memory::Long, Kind::TwoWay, before)

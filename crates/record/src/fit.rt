@@ -9,7 +9,7 @@ use crate::{Fixed, Memory, Moving};
 fn fits_long(m: usize, c: usize, b: usize, p: usize) -> bool
     ensures { result ≡ fits_long m c b p }
 {
-    1 <= c && c < m && b == c && p == c.max(m - c) + 1
+    1 <= c && c < m && b == c && p == number::larger(c, m - c) + 1
 }
 
 #[tactic(auto, unfolding(crate::specs::Fits::fits_short))]

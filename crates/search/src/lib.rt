@@ -137,7 +137,6 @@ fn walk<const BACKWARD: bool>(
 }
 
 // A walk taken on forward, by one step (`stepping`) or to the next match.
-// A walk taken on forward.
 pub fn forward(
     haystack: &[u8],
     needle: &[u8],
@@ -150,7 +149,6 @@ pub fn forward(
     walk::<false>(haystack, needle, fixed, moving, stepping)
 }
 
-// The same backward.
 // The same backward.
 pub fn backward(
     haystack: &[u8],

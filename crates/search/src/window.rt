@@ -35,7 +35,7 @@ fn forward_window(haystack: &[u8], needle: &[u8], set: u64, v: Plan, s: Cursor) 
     if !may_have(set, haystack, s.at + (m - 1)) {
         return comes_to(false, s.at + m, 0, 0);
     }
-    let from = v.split.max(s.memory);
+    let from = number::larger(v.split, s.memory);
     let i = letters::first_up(haystack, needle, s.at, from, m);
     if i < m {
         return comes_to(false, s.at + (i - v.split + 1), 0, i + 1 - from);
@@ -63,7 +63,7 @@ fn backward_window(haystack: &[u8], needle: &[u8], set: u64, v: Plan, s: Cursor)
     if !may_have(set, haystack, first) {
         return comes_to(false, first, m, 0);
     }
-    let upto = v.split.min(s.memory);
+    let upto = number::smaller(v.split, s.memory);
     let agreed = letters::agree_down(haystack, needle, first, upto, 0);
     if agreed < upto {
         return comes_to(
@@ -73,7 +73,7 @@ fn backward_window(haystack: &[u8], needle: &[u8], set: u64, v: Plan, s: Cursor)
             agreed + 1,
         );
     }
-    let high = v.split.max(s.memory);
+    let high = number::larger(v.split, s.memory);
     let j = letters::first_up(haystack, needle, first, v.split, high);
     if j < high {
         return comes_to(
