@@ -43,13 +43,13 @@ module _ {g : Bool} {x : Word} {n : ℕ} {known : Option ℕ} where
   loop_end {s} {k} v h = sym v.rule ∙ run_stop g x known (2 * x.size - k) s k (let e = v.sized in omega arith)
 
   -- a round on the letters a and b, which the code read in the word
-  module _ {s t : State} {k a b : ℕ} (made : t ≡ round_on g a b s) (v : Looping g x n known s k) (h : s.right + s.offset < n)
-      (ea : a ≡ x.letter (s.right + s.offset)) (eb : b ≡ x.letter (s.left + s.offset)) where
+  module _ {s t : State} {k a b i j : ℕ} (made : t ≡ round_on g a b s) (v : Looping g x n known s k) (h : s.right + s.offset < n)
+      (ea : a ≡ x.letter i) (eb : b ≡ x.letter j) (new : i ≡ s.right + s.offset) (expected : j ≡ s.left + s.offset) where
     inside : s.right + s.offset < x.size
     inside = let e = v.sized in omega arith
 
     rounded : round_on g (x.letter (s.right + s.offset)) (x.letter (s.left + s.offset)) s ≡ t
-    rounded = rw (← ea, ← eb) (sym made)
+    rounded = rw (← new, ← expected, ← ea, ← eb) (sym made)
 
     went : Moved s t
     went = subst (Moved s) (sym made) (moved g a b s v.sound)

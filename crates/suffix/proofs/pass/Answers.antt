@@ -1,4 +1,5 @@
 use mathlib.Core.Path.{sym, ◌∙◌}
+use native.Mathlib.Omega.{arith}
 use Rattle.suffix.proofs.Loop.{from_either, stops_is, loop_first, loop_end, loop_next, loop_falls, loop_last}
 use Rattle.suffix.proofs.Laws.{passed_gives}
 use Rattle.suffix.proofs.pass.Goals as goal
@@ -11,7 +12,7 @@ loop-s-smaller g c = loop_falls _ _ _ _ c.round_on-s.ensures c.loop-s.invariant.
 
 pub loop-s-preserved : goal.loop-s-preserved
 loop-s-preserved g c =
-    loop_next c.round_on-s.ensures c.loop-s.invariant c.loop-s-test.true c.letter-new.ensures c.letter-expected.ensures (stops_is c.args.known c.round_on-s.result.period c.eq.ensures ∙ c.if-eq.false)
+    loop_next c.round_on-s.ensures c.loop-s.invariant c.loop-s-test.true c.letter-new.ensures c.letter-expected.ensures (grind arith) (grind arith) (stops_is c.args.known c.round_on-s.result.period c.eq.ensures ∙ c.if-eq.false)
 
 pub returns-after-loop-s : goal.returns-after-loop-s
 returns-after-loop-s g c =
@@ -20,4 +21,4 @@ returns-after-loop-s g c =
 pub returns-then-eq : goal.returns-then-eq
 returns-then-eq g c =
     passed_gives (sym c.needle_too_long.ensures ∙ c.if-needle_too_long.false)
-    (loop_last c.round_on-s.ensures c.loop-s.invariant c.loop-s-test.true c.letter-new.ensures c.letter-expected.ensures (stops_is c.args.known c.round_on-s.result.period c.eq.ensures ∙ c.if-eq.true))
+    (loop_last c.round_on-s.ensures c.loop-s.invariant c.loop-s-test.true c.letter-new.ensures c.letter-expected.ensures (grind arith) (grind arith) (stops_is c.args.known c.round_on-s.result.period c.eq.ensures ∙ c.if-eq.true))
