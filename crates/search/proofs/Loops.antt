@@ -95,8 +95,9 @@ module _ {backward stepping : Bool} {has : ℕ → Bool} {v : Plan} {x h : Word}
           ≡ whole
       stepped = rest (sym (rw (← is_room, not_passed, ← made) at (goes backward (h.size - t) stepping has v x h start.at s d t)))
 
-      pub loop_hit : {r : Searched} {place : ℕ} → place ≡ window_at backward s.at x.size → u.matched ≡ true → r ≡ ended (Stop.Hit place) u.next (d + u.comparisons) (t + 1) → r ≡ whole
-      loop_hit at e q = q ∙ rw at (rw e at stepped)
+      pub loop_hit : {r : Searched} {place spent : ℕ} → place ≡ window_at backward s.at x.size → u.matched ≡ true → r ≡ ended (Stop.Hit place) u.next spent (t + 1)
+          → spent ≡ d + u.comparisons → r ≡ whole
+      loop_hit at e q counted = q ∙ rw (at, counted) (rw e at stepped)
 
       pub loop_next : u.matched ≡ false → Keeps backward v x.size h.size start u.next (d + u.comparisons) (t + 1)
           → Looping backward stepping has v x h start u.next (d + u.comparisons) (t + 1)

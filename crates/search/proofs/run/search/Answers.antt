@@ -21,7 +21,7 @@ overflow_add-comparisons g c =
 
 pub returns-then-w-clause-rule : goal.returns-then-w-clause-rule
 returns-then-w-clause-rule g c =
-    loop_hit c.loop-v.invariant c.loop-v-test.ensures.rule c.window-w.ensures (no_part_passed _ _ _ c.else-stepping.either) c.window_at-place.ensures.rule c.if-w.true c.ended-then-w.ensures
+    loop_hit c.loop-v.invariant c.loop-v-test.ensures.rule c.window-w.ensures (no_part_passed _ _ _ c.else-stepping.either) c.window_at-place.ensures.rule c.if-w.true c.ended-then-w.ensures (grind arith)
 
 pub loop-v-preserved : goal.loop-v-preserved
 loop-v-preserved g c =
