@@ -1,6 +1,6 @@
 -- What each way through a call shows: what was checked, what a search asks and gives, and what is handed back.
 -- Assumes nothing.
-use Rattle.std.proofs.Common.{◌≡◌, ℕ, ◌≤◌, Bool, true, false, cond, ◌&&◌, ◌⊎◌, ⊎_elim, eqb, ne_eqb, List, length, Ok, Err, sym, refl, ◌∙◌, arith}
+use Rattle.std.proofs.Common.{◌≡◌, ℕ, ◌≤◌, Bool, true, false, cond, ◌&&◌, ◌⊎◌, ⊎_elim, eqb, ne_eqb, List, length, Ok, Err, sym, refl, ◌∙◌, ap, arith}
 use Rattle.limits.specs.Checks.{Check, lengths, Within}
 use Rattle.limits.specs.declared.Refusal.{Refusal}
 use Rattle.limits.proofs.Room.{haystack_room, needle_room}
@@ -100,10 +100,11 @@ module _ (needle haystack : List ℕ) (f : Fixed) (s : Moving) where
             record { shape = g.shape; back = omega arith; within = g.within; memory = g.memory; small = omega (arith, haystack_room); needle = omega (arith, needle_room) }
 
     module _ (stepping : Bool) {r : Searched} (searched : r ≡ searched_from backward stepping f.byteset v needle haystack k) where
-      pub walked : {ending : Ending} {moving : Moving} {to : ℕ} → to ≡ far_end backward (length haystack)
-          → ((stepping ≡ true) × (k.at ≡ to → ⊥)) ⊎ (stepping ≡ false)
+      pub walked : {ending : Ending} {moving : Moving} {at to n : ℕ} → to ≡ far_end backward n
+          → ((stepping ≡ true) × (at ≡ to → ⊥)) ⊎ (stepping ≡ false)
           → ending ≡ ending_of (length needle) r.stop → moving ≡ moved_to backward s r.cursor
+          → n ≡ length haystack → at ≡ k.at
           → ◌≡◌ {A = Walked} (record { ending = Ok ending; moving = moving; counts = walking r.comparisons r.tests }) (two_way backward stepping needle haystack f s)
-      walked {to = to} at_end either ended moved =
-          let not_done : (stepping && eqb k.at to) ≡ false = ⊎_elim (λ w. rw (w.0, ne_eqb k.at to w.1)) (λ w. rw w) either in
-          rw (ended, moved, searched) (sym (rw (← planned, ← from, ← at_end, not_done) at (by_end backward stepping)))
+      walked {at = at} {to = to} at_end either ended moved whole stands =
+          let not_done : (stepping && eqb k.at to) ≡ false = ⊎_elim (λ w. rw (w.0, ← stands, ne_eqb at to w.1)) (λ w. rw w) either in
+          rw (ended, moved, searched) (sym (rw (← planned, ← from, ← (at_end ∙ ap (far_end backward) whole), not_done) at (by_end backward stepping)))
