@@ -119,10 +119,11 @@ module _ {x : ℕ} {text : List ℕ} (backward : Bool) where
   pub pass_starts : {k : ℕ} → k ≤ before x (read text backward) → Passed x text backward k
   pass_starts h = let e = before_inside x text backward in record { inside = omega arith; reached = h }
 
-  -- from is where the stretch behind k starts, and b what the code has said of it
-  module _ {width k from : ℕ} {b : Bool} (p : Passed x text backward k) (h : width ≤ length text - k) (q : from ≡ start text backward width k) (e : b ≡ list_all (other x) (between text from (from + width))) where
+  -- from is where the stretch behind k starts, and b what the code has said of the bytes from `low` to `high`, which are that stretch
+  module _ {width k from low high : ℕ} {b : Bool} (p : Passed x text backward k) (h : width ≤ length text - k) (q : from ≡ start text backward width k) (e : b ≡ list_all (other x) (between text low high))
+      (lows : low ≡ from) (highs : high ≡ from + width) where
     told : b ≡ list_all (other x) (between text (start text backward width k) (start text backward width k + width))
-    told = rw (← q) e
+    told = rw (← q, ← highs, ← lows) e
 
     pub pass_on : b ≡ true → Passed x text backward (k + width)
     pass_on n =
