@@ -45,17 +45,17 @@ module _ (text pattern : List ℕ) where
       free = omega arith
 
       go : (c : Check) → c ≡ lengths (length text) (length pattern) → SearchBounded text pattern (searched backward text pattern).counts
-      go (Err why) e = bounded (search_refused backward text pattern e refl refl) free
+      go (Err why) e = bounded (search_refused backward text pattern refl e refl refl) free
       go (Ok checked) e =
           elim (ℕ_discrete (length pattern) 0) [
-            | yes z ↦ bounded (search_empty backward text pattern e refl z refl refl) free
+            | yes z ↦ bounded (search_empty backward text pattern refl e refl z refl refl) free
             | no s ↦ elim (ℕ_discrete (length pattern) 1) [
               | yes o ↦
                   let few = scan_bounded backward in
-                  bounded (search_one backward text pattern e refl s o refl refl) (omega arith)
+                  bounded (search_one backward text pattern refl e refl s o refl refl) (omega arith)
               | no l ↦
                   let ok : Allowed pattern text = record { within = lengths_pass (length text) (length pattern) e refl } in
-                  bounded (search_longer backward text pattern e refl s l refl refl refl)
+                  bounded (search_longer backward text pattern refl e refl s l refl refl refl)
                   (record { walking = walk_bounded backward ok; preparing = (demand_3 pattern text NonOverlapping ok []).preparing })
             ]
           ]

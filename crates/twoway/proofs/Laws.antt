@@ -25,25 +25,29 @@ pub coded : {r s : SearchTold} {k : ℕ} → r ≡ s → k ≡ code_of r.positio
 coded e q = q ∙ rw e
 
 -- ---- the ways through a whole search, by what the checks came to and by the pattern's length
-module _ (backward : Bool) (text pattern : List ℕ) {c : Check} {r : SearchTold} (checked : c ≡ lengths (length text) (length pattern)) where
+
+ran : (n m : ℕ) {k : ℕ} {c : Check} → k ≡ n → c ≡ lengths k m → c ≡ lengths n m
+ran n m whole checked = checked ∙ rw whole
+
+module _ (backward : Bool) (text pattern : List ℕ) {c : Check} {r : SearchTold} {n : ℕ} (whole : n ≡ length text) (checked : c ≡ lengths n (length pattern)) where
   pub search_refused : {why : Refusal} → c ≡ Err why → r ≡ told (refused (number_of why)) 0 0 0 → r ≡ searched backward text pattern
   unfolding searched
-  search_refused because q = q ∙ rw (← checked, because)
+  search_refused because q = q ∙ rw (← ran (length text) (length pattern) whole checked, because)
 
   module _ (pass : c ≡ Ok tt) where
     pub search_empty : {k : ℕ} → length pattern ≡ 0 → k ≡ empty_place backward (length text) → r ≡ told (given (Some k)) 0 0 0 → r ≡ searched backward text pattern
     unfolding searched
-    search_empty z e q = q ∙ rw (e, ← checked, pass, eq-eqb _ _ z)
+    search_empty z e q = q ∙ rw (e, ← ran (length text) (length pattern) whole checked, pass, eq-eqb _ _ z)
 
     module _ (some_letters : length pattern ≡ 0 → ⊥) where
       pub search_one : {s : Scan} → length pattern ≡ 1 → s ≡ scan_of backward (get_or pattern 0 0) text → r ≡ by_scan s → r ≡ searched backward text pattern
       unfolding searched
-      search_one o es q = q ∙ rw (es, ← checked, pass, ne_eqb _ _ some_letters, eq-eqb _ _ o)
+      search_one o es q = q ∙ rw (es, ← ran (length text) (length pattern) whole checked, pass, ne_eqb _ _ some_letters, eq-eqb _ _ o)
 
       pub search_longer : {n : CallTold (Unit {0})} {m : CallTold (Option (ℕ × ℕ))} → (length pattern ≡ 1 → ⊥) → n ≡ new_rule pattern (length text) NonOverlapping → m ≡ match_of backward pattern text n.walk
           → r ≡ by_walk n.counts.preparing m → r ≡ searched backward text pattern
       unfolding searched
-      search_longer o en em q = q ∙ rw (em, en, ← checked, pass, ne_eqb _ _ some_letters, ne_eqb _ _ o)
+      search_longer o en em q = q ∙ rw (em, en, ← ran (length text) (length pattern) whole checked, pass, ne_eqb _ _ some_letters, ne_eqb _ _ o)
 
 -- ---- what a position says loses nothing
 

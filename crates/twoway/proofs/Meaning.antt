@@ -45,14 +45,14 @@ module _ (backward : Bool) (text pattern : List ℕ) (Finds : Option ℕ → Typ
   searched_means = go (lengths (length text) (length pattern)) refl
     where
       go : (c : Check) → c ≡ lengths (length text) (length pattern) → Meant Finds text pattern (searched backward text pattern).position
-      go (Err why) e = meant (search_refused backward text pattern e refl refl) (lengths_refuse _ _ e refl)
+      go (Err why) e = meant (search_refused backward text pattern refl e refl refl) (lengths_refuse _ _ e refl)
       go (Ok checked) e =
           let w = lengths_pass (length text) (length pattern) e refl in
           elim (ℕ_discrete (length pattern) 0) [
-            | yes z ↦ meant (search_empty backward text pattern e refl z refl refl) (w, at_empty z)
+            | yes z ↦ meant (search_empty backward text pattern refl e refl z refl refl) (w, at_empty z)
             | no s ↦ elim (ℕ_discrete (length pattern) 1) [
-              | yes o ↦ meant (search_one backward text pattern e refl s o refl refl) (w, by_scan o)
-              | no l ↦ meant (search_longer backward text pattern e refl s l refl refl refl) (of_match_meant w (match_of backward pattern text (new_rule pattern (length text) NonOverlapping).walk).answer (by_walk w))
+              | yes o ↦ meant (search_one backward text pattern refl e refl s o refl refl) (w, by_scan o)
+              | no l ↦ meant (search_longer backward text pattern refl e refl s l refl refl refl) (of_match_meant w (match_of backward pattern text (new_rule pattern (length text) NonOverlapping).walk).answer (by_walk w))
             ]
           ]
 
