@@ -96,7 +96,7 @@ module _ (needle : List ℕ) (p : ℕ) {lower higher : ReverseSuffix} (period : 
   pub counted_fit : (counted : ℕ) → counted ≤ 5 * length needle → Fits w64 (counted + (lower.rounds + higher.rounds))
   counted_fit counted h = record { fits = omega (arith, reverse_both_few, needle_room) }
 
-  pub short_is : (n : ℕ) (mode : Mode) (c before : ℕ) {later set : ℕ} {r : PartsTold}
+  pub short_is : (n : ℕ) (mode : Mode) (c before : ℕ) {later set : ℕ} {bytes : List ℕ} {r : PartsTold}
       → r ≡ ready
       (record {
         needle_len = length needle;
@@ -110,10 +110,10 @@ module _ (needle : List ℕ) (p : ℕ) {lower higher : ReverseSuffix} (period : 
       (Short 0 (length needle))
       TwoWay
       (before + (lower.rounds + higher.rounds))
-      → later ≡ max lower.start higher.start → set ≡ fingerprint (take p needle)
+      → later ≡ max lower.start higher.start → set ≡ fingerprint bytes → bytes ≡ take p needle
       → r ≡ prepare_short needle n mode c p before
   unfolding prepare_short reverse_rounds
-  short_is n mode c before e l f = e ∙ rw (l, f, a, b)
+  short_is n mode c before e l f q = e ∙ rw (l, f, q, a, b)
 
 -- ---- the steps together
 
