@@ -60,7 +60,7 @@ fn with_digit(base: u64, value: u64, b: u8) -> Option<u64>
 
 // Reads digits of a base, at most `most`, as far as their value fits. How many there have to be is the caller's to ask: the place behind
 // them says how many there are.
-fn read_digits(s: &[u8], from: usize, base: u64, most: usize) -> Read<u64>
+pub fn read_digits(s: &[u8], from: usize, base: u64, most: usize) -> Read<u64>
     ensures lower_bound { from ≤ result.next }
     ensures rule { result ≡ digits_from base most 0 from (drop from s.now) }
 {

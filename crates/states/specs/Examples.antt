@@ -12,7 +12,7 @@ use Rattle.record.specs.declared.Kind.{Kind}
 use Rattle.record.specs.declared.Kind.TheVariants.{TwoWay, Empty}
 use Rattle.record.specs.Kinds.{overlaps}
 use Rattle.searcher.specs.declared.TwoWaySearcher.{TwoWaySearcher}
-use Rattle.states.specs.States.{head_at, two_at, mode_at, ends_at, memory_at, splits_at, flags_at, state_at, state_text}
+use Rattle.states.specs.States.{head_at, two_at, mode_at, ends_at, memory_at, splits_at, flags_at, walk_at, state_at, state_text}
 
 -- ` S:4:6:6:6:n:1:3:2:0000400200000000:0:4`, after the walk of P9
 abbrev pub short : List ℕ
@@ -73,5 +73,5 @@ table =
     ∷ []
 
 pub examples : T (all_as_stated table)
-unfolding all_as_stated same skipped either_at digit_of with_digit digits_from number_at set_at digits hex_text spent form_text head_at two_at mode_at ends_at memory_at splits_at flags_at state_at
+unfolding all_as_stated same skipped either_at digit_of with_digit digits_from number_at set_at digits hex_text spent form_text head_at two_at mode_at ends_at memory_at splits_at flags_at walk_at state_at
 examples = tt

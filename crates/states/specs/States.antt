@@ -139,13 +139,17 @@ walk_of ends rest =
       moving = record { position = ends.position; end = ends.end; memory = rest.memory; kind = rest.kind };
     }
 
--- the state at the cursor, if the line ends behind it
-unfoldable pub state_at : List ℕ → Option ℕ → Option TwoWaySearcher
-state_at s c =
+-- the state at the cursor, and the cursor behind it
+unfoldable pub walk_at : List ℕ → Option ℕ → Option (Read TwoWaySearcher)
+walk_at s c =
     and_then (head_at s c) (λ head.
     and_then (ends_at s (Some head.next)) (λ ends.
     and_then (rest_at s (Some ends.next) head.value) (λ rest.
-    cond (is_end (length s) (Some rest.next)) (Some (walk_of ends.value rest.value)) None)))
+    Some (record { value = walk_of ends.value rest.value; next = rest.next }))))
+
+-- the state at the cursor, if the line ends behind it
+unfoldable pub state_at : List ℕ → Option ℕ → Option TwoWaySearcher
+state_at s c = and_then (walk_at s c) (λ read. cond (is_end (length s) (Some read.next)) (Some read.value) None)
 
 -- ---- printing
 

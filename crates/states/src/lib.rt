@@ -4,7 +4,7 @@
 ghost use Rattle.std.specs.Prelude.{◌≡◌, ◌+◌};
 ghost use Rattle.printing.specs.InRoom.{InRoom};
 ghost use Rattle.printing.specs.Printing.{Prints, form_text};
-ghost use Rattle.states.specs.States.{head_at, field_at, two_at, mode_at, ends_at, memory_at, splits_at, flags_at, rest_at, walk_of, state_at, letter_of, begin_text, splits_numbers, two_way_text, empty_text, state_text};
+ghost use Rattle.states.specs.States.{head_at, field_at, two_at, mode_at, ends_at, memory_at, splits_at, flags_at, rest_at, walk_of, walk_at, state_at, letter_of, begin_text, splits_numbers, two_way_text, empty_text, state_text};
 
 use lines::Read;
 use searcher::{Fixed, Kind, Memory, Mode, Moving, TwoWaySearcher};
@@ -228,18 +228,29 @@ fn walk_of(ends: Ends, rest: Rest) -> TwoWaySearcher
     }
 }
 
+// Reads a state, whatever stands behind it.
+#[tactic(auto, unfolding(crate::specs::States::walk_at))]
+pub fn read_walk(line: &[u8], c: Option<usize>) -> Option<Read<TwoWaySearcher>>
+    ensures { result ≡ walk_at line.now c }
+{
+    let head = read_head(line, c)?;
+    let ends = read_ends(line, Some(head.next))?;
+    let rest = read_rest(line, Some(ends.next), head.value)?;
+    let value = walk_of(ends.value, rest.value);
+    let next = rest.next;
+    Some(Read { value, next })
+}
+
 // Reads a state at the end of a line.
 #[tactic(auto, unfolding(crate::specs::States::state_at))]
 pub fn read_state(line: &[u8], c: Option<usize>) -> Option<TwoWaySearcher>
     ensures { result ≡ state_at line.now c }
 {
-    let head = read_head(line, c)?;
-    let ends = read_ends(line, Some(head.next))?;
-    let rest = read_rest(line, Some(ends.next), head.value)?;
-    if !lines::is_end(line, Some(rest.next)) {
+    let read = read_walk(line, c)?;
+    if !lines::is_end(line, Some(read.next)) {
         return None;
     }
-    Some(walk_of(ends.value, rest.value))
+    Some(read.value)
 }
 
 // The letter of a mode.
