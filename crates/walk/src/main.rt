@@ -29,13 +29,13 @@ fn answer(output: &mut impl Write, line: &[u8]) -> io::Result<()> {
 
 // Takes a part of the input in, and answers each line that it ends. What is then in `line` is the next line's.
 fn take(output: &mut impl Write, part: &[u8], line: &mut Room<LINE_ROOM>) -> io::Result<()> {
-    for b in part {
-        if *b != b'\n' {
-            line.put(&[*b]);
-            continue;
+    for (i, piece) in part.split(|b| *b == b'\n').enumerate() {
+        // A piece behind the first stands behind a newline, which ends what there is of a line.
+        if 0 < i {
+            answer(output, line.bytes())?;
+            line.clear();
         }
-        answer(output, line.bytes())?;
-        line.clear();
+        line.put(piece);
     }
     Ok(())
 }
