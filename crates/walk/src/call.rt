@@ -1,4 +1,7 @@
 // The calls that take a walk on.
+ghost use Rattle.std.specs.Prelude.{◌≡◌};
+ghost use Rattle.walk.specs.Answers.{Tells, told_said, call_said, call_of, IsFrontShort};
+
 use crate::front::Front;
 use searcher::{Called, Counts, TwoWaySearcher};
 
@@ -18,7 +21,9 @@ pub(crate) struct Told {
     pub(crate) counts: Counts,
 }
 
-fn tell<A: Into<Front>>(called: Called<A>) -> Told {
+fn tell<A: Into<Front>>(called: Called<A>) -> Told
+    ensures { Tells A.converts called result }
+{
     Told {
         front: Front::of(called.answer),
         walk: called.walk,
@@ -28,7 +33,9 @@ fn tell<A: Into<Front>>(called: Called<A>) -> Told {
 
 impl Call {
     // The call of a script's letter: `f`, `b`, `F`, or else `B`.
-    pub(crate) fn of_letter(letter: u8) -> Call {
+    pub(crate) fn of_letter(letter: u8) -> Call
+        ensures { result ≡ call_of letter }
+    {
         match letter {
             b'f' => Call::Step,
             b'b' => Call::StepBack,
@@ -37,7 +44,11 @@ impl Call {
         }
     }
 
-    pub(crate) fn make(self, walk: TwoWaySearcher, haystack: &[u8], needle: &[u8]) -> Told {
+    #[tactic(auto, using(crate::proofs::Laws::step_told, crate::proofs::Laws::match_told, crate::proofs::Laws::step_short), unfolding(crate::specs::Answers::call_said))]
+    pub(crate) fn make(self, walk: TwoWaySearcher, haystack: &[u8], needle: &[u8]) -> Told
+        ensures rule { told_said result ≡ call_said self walk haystack.now needle.now }
+        ensures bound { IsFrontShort result.front }
+    {
         match self {
             Call::Step => tell(walk.next(haystack, needle)),
             Call::StepBack => tell(walk.next_back(haystack, needle)),

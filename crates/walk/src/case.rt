@@ -1,5 +1,6 @@
 // One line to one answer. Their forms stand in docs/LINES.md; the words in capitals are its own.
-ghost use Rattle.std.specs.Prelude.{◌≤◌, length, IfSome};
+ghost use Rattle.std.specs.Prelude.{◌≤◌, length, IfSome, OnOk};
+ghost use Rattle.walk.specs.Answers.{AppendsAnswer, most_bytes};
 
 use crate::call::Call;
 use crate::kind::Kind;
@@ -16,6 +17,9 @@ const SCRIPT_LETTERS: usize = 256;
 
 // The most bytes that a line may have: those of a walk over two such words, with the longest script. None that is longer is well formed.
 pub(crate) const LINE_BYTES: usize = 16649;
+
+// The most bytes that an answer has: a walk with the longest script, of `ok` and a count, 256 calls, and a state.
+pub(crate) const ANSWER_BYTES: usize = 23533;
 
 // What a line asks for, behind its words.
 #[derive(Clone, Copy)]
@@ -49,7 +53,7 @@ fn last<T: Copy>(line: &[u8], read: Read<T>) -> Option<T> {
 
 // The script that ends the line from `from` on.
 fn script(line: &[u8], from: usize) -> Option<&[u8]>
-    ensures { IfSome result (λ script. length script.now ≤ 256) }
+    ensures { IfSome result (λ script. length script.now ≤ SCRIPT_LETTERS) }
 {
     let script = line.get(from..)?;
     if SCRIPT_LETTERS < script.len() {
@@ -64,7 +68,9 @@ fn order(line: &[u8], at: usize) -> Option<bool> {
 }
 
 // What stands behind the words of a line, which end at `at`.
-fn read_asked(line: &[u8], at: usize, kind: Kind) -> Option<Asked<'_>> {
+fn read_asked(line: &[u8], at: usize, kind: Kind) -> Option<Asked<'_>>
+    ensures { IfSome result (λ asked. most_bytes asked ≤ ANSWER_BYTES) }
+{
     match kind {
         Kind::Suffix => Some(Asked::Suffix {
             order_greater: order(line, at)?,
@@ -98,7 +104,8 @@ fn read_asked(line: &[u8], at: usize, kind: Kind) -> Option<Asked<'_>> {
 
 // Reads a line, its words into the two rooms.
 fn read<'a>(line: &'a [u8], first: &mut [u8], second: &mut [u8]) -> Option<Case<'a>>
-    ensures { IfSome result (λ case. (case.needle ≤ length first.new) × (case.haystack ≤ length second.new)) }
+    ensures words { IfSome result (λ case. (case.needle ≤ length first.new) × (case.haystack ≤ length second.new)) }
+    ensures short { IfSome result (λ case. most_bytes case.asked ≤ ANSWER_BYTES) }
 {
     let name = lines::until(line, b' ');
     let kind = Kind::named(&line[..name])?;
@@ -119,7 +126,10 @@ fn read<'a>(line: &'a [u8], first: &mut [u8], second: &mut [u8]) -> Option<Case<
 }
 
 // Prints the answer to a line. What is malformed or too long is answered by `bad line`.
-pub(crate) fn answer(out: &mut impl Write, line: &[u8]) -> io::Result<()> {
+#[tactic(auto, using(crate::proofs::Laws::answers_badly, crate::proofs::Laws::answers))]
+pub(crate) fn answer<W: Write>(out: &mut W, line: &[u8]) -> io::Result<()>
+    ensures { OnOk result (AppendsAnswer ANSWER_BYTES (W.contents out.old) (W.contents out.new)) }
+{
     let mut first = [0u8; WORD_BYTES];
     let mut second = [0u8; WORD_BYTES];
     let Some(case) = read(line, &mut first, &mut second) else {

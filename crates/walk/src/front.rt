@@ -1,4 +1,7 @@
 // What an answer begins with.
+ghost use Rattle.std.specs.Prelude.{◌≡◌, Some, MatchResult};
+ghost use Rattle.walk.specs.Answers.{front_text, IsFrontShort, step_front, match_front, place_front};
+
 use limits::Refusal;
 use searcher::Step;
 use std::fmt;
@@ -15,7 +18,9 @@ pub(crate) enum Front {
 
 impl Front {
     // An answer's front, whatever it gives.
-    pub(crate) fn of<A: Into<Front>>(answer: Result<A, Refusal>) -> Front {
+    pub(crate) fn of<A: Into<Front>>(answer: Result<A, Refusal>) -> Front
+        ensures { MatchResult answer (λ given. A.converts given result) (λ why. result ≡ Front.Refused why) }
+    {
         match answer {
             Ok(given) => given.into(),
             Err(why) => Front::Refused(why),
@@ -24,6 +29,9 @@ impl Front {
 }
 
 impl From<Step> for Front {
+    ghost from_gives = { λ step front. (front ≡ step_front step) × IsFrontShort front };
+
+    #[tactic(auto, using(crate::proofs::Laws::at_size, crate::proofs::Laws::match_size, crate::proofs::Laws::reject_size))]
     fn from(step: Step) -> Front {
         match step {
             Step::Match(a, b) => Front::Match(a, b),
@@ -34,6 +42,9 @@ impl From<Step> for Front {
 }
 
 impl From<Option<(usize, usize)>> for Front {
+    ghost from_gives = { λ found front. (front ≡ match_front found) × IsFrontShort front };
+
+    #[tactic(auto, using(crate::proofs::Laws::at_size, crate::proofs::Laws::match_size, crate::proofs::Laws::reject_size))]
     fn from(found: Option<(usize, usize)>) -> Front {
         match found {
             Some((a, b)) => Front::Match(a, b),
@@ -43,6 +54,9 @@ impl From<Option<(usize, usize)>> for Front {
 }
 
 impl From<Option<usize>> for Front {
+    ghost from_gives = { λ place front. (front ≡ place_front place) × IsFrontShort front };
+
+    #[tactic(auto, using(crate::proofs::Laws::at_size, crate::proofs::Laws::match_size, crate::proofs::Laws::reject_size))]
     fn from(place: Option<usize>) -> Front {
         match place {
             Some(k) => Front::At(k),
@@ -52,6 +66,8 @@ impl From<Option<usize>> for Front {
 }
 
 impl fmt::Display for Front {
+    ghost output = { λ front. Some (front_text front) };
+
     fn fmt<W: fmt::Write>(&self, f: &mut fmt::Formatter<W>) -> fmt::Result {
         match self {
             Front::Nothing => f.write_str("none"),

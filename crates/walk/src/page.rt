@@ -1,10 +1,10 @@
 // What is written, in a room, so that an answer goes out at once.
+use crate::case;
 use crate::room::Room;
 use std::io::{self, Write};
 
-// An answer has fewer bytes: a walk with the longest script, if each call of it had three counts, and each number 20 digits. What is
-// longer would go out in two writes.
-const ROOM: usize = 29000;
+// An answer fits, with its newline. What is longer would go out in two writes.
+const ROOM: usize = case::ANSWER_BYTES + 1;
 
 #[derive(Drop)]
 pub(crate) struct Page<W: Write> {
