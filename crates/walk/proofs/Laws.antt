@@ -20,6 +20,7 @@ use Rattle.limits.specs.declared.Refusal.{Refusal}
 use Rattle.limits.specs.declared.Refusal.TheVariants.{HaystackTooLong, NeedleTooLong, EmptyNeedle, StateDoesNotFit, StepOverlapping}
 use Rattle.printing.specs.Printing.{Prints}
 use Rattle.limits.specs.Said.{said}
+use Rattle.record.specs.declared.Counts.{Counts}
 use Rattle.searcher.specs.Walk.{StepTerm, CallTold, told as call_told, step_said, stepped_told}
 use Rattle.searcher.specs.declared.Called.{Called}
 use Rattle.searcher.specs.declared.Step.{Step}
@@ -86,9 +87,9 @@ pub told_size : (told : Told) → length (state_text told.walk) ≤ 214 → told
     → length (told_text (told_said told)) ≤ 304
 told_size told state h i short = simp length-append (omega (arith, state, short, number_size _ h, number_size _ i))
 
-pub call_size : (told : Told) → told.counts.comparisons < 2 ^ 64 → told.counts.tests < 2 ^ 64 → IsFrontShort told.front
-    → length (call_text (told_said told)) ≤ 91
-call_size told h i short = simp length-append (omega (arith, short, number_size _ h, number_size _ i))
+pub call_size : (front : Front) (counts : Counts) → counts.comparisons < 2 ^ 64 → counts.tests < 2 ^ 64 → IsFrontShort front
+    → length (call_text (front_text front) counts) ≤ 91
+call_size front counts h i short = simp length-append (omega (arith, short, number_size _ h, number_size _ i))
 
 -- what is told of a step is what the searcher says of it, and what is told of a next match too
 abbrev pub Gives : {A : Type 0} → (A → Front) → A → Front → Type 0
@@ -174,7 +175,7 @@ walk_begins p ready rule script haystack needle old new is answer h appends = re
 calls_next : (script : List ℕ) (i : ℕ) (call : Call) (told : Told) (walk : TwoWaySearcher) (haystack needle : List ℕ) → i < length script
     → call ≡ call_of (get_or script i 0)
     → told_said told ≡ call_said call walk haystack needle
-    → calls_text (drop i script) walk haystack needle ≡ call_text (told_said told) ++ calls_text (drop (i + 1) script) told.walk haystack needle
+    → calls_text (drop i script) walk haystack needle ≡ call_text (front_text told.front) told.counts ++ calls_text (drop (i + 1) script) told.walk haystack needle
 unfolding calls_text
 calls_next script i call told walk haystack needle h read is = rw (drop-cons script i 0 h, ← read, ← is, add-one i)
 
@@ -182,10 +183,10 @@ calls_next script i call told walk haystack needle h read is = rw (drop-cons scr
 pub walk_goes_on : (whole script : List ℕ) (i : ℕ) (call : Call) (told : Told) (walk : TwoWaySearcher) (haystack needle : List ℕ) (old mid new : Option (List ℕ))
     → i < length script → call ≡ call_of (get_or script i 0)
     → told_said told ≡ call_said call walk haystack needle → Begun whole (calls_text (drop i script) walk haystack needle) (23 + 91 * i) old mid
-    → Appends mid new (call_text (told_said told)) → length (call_text (told_said told)) ≤ 91
+    → Appends mid new (call_text (front_text told.front) told.counts) → length (call_text (front_text told.front) told.counts) ≤ 91
     → Begun whole (calls_text (drop (i + 1) script) told.walk haystack needle) (23 + 91 * (i + 1)) old new
 walk_goes_on whole script i call told walk haystack needle old mid new h read is begun appends short =
-    let piece = call_text (told_said told) in
+    let piece = call_text (front_text told.front) told.counts in
     let next = calls_next script i call told walk haystack needle h read is in
     let both = length-append begun.text piece in
     record {

@@ -95,8 +95,8 @@ abbrev pub told_text : CallSaid → List ℕ
 told_text call = call.result ++ (state_text call.walk ++ counts_text (call.counts.comparisons ∷ call.counts.tests ∷ []))
 
 -- in a walk ` RESULT/COMPARISONS/TESTS`
-abbrev pub call_text : CallSaid → List ℕ
-call_text call = 32 ∷ (call.result ++ (codes "/" ++ (decimal call.counts.comparisons ++ (codes "/" ++ decimal call.counts.tests))))
+abbrev pub call_text : List ℕ → Counts → List ℕ
+call_text result counts = 32 ∷ (result ++ (codes "/" ++ (decimal counts.comparisons ++ (codes "/" ++ decimal counts.tests))))
 
 -- what the code tells of a call, in text
 abbrev pub told_said : Told → CallSaid
@@ -135,7 +135,7 @@ unfoldable pub calls_text : List ℕ → TwoWaySearcher → List ℕ → List �
 calls_text [] walk haystack needle = state_text walk
 calls_text (letter ∷ script) walk haystack needle =
     let call = call_said (call_of letter) walk haystack needle in
-    call_text call ++ calls_text script call.walk haystack needle
+    call_text call.result call.counts ++ calls_text script call.walk haystack needle
 
 -- `ok PREPARING RESULT/COMPARISONS/TESTS .. STATE`, or `ref:N`
 abbrev pub walk_text : CallTold (Unit {0}) → List ℕ → List ℕ → List ℕ → List ℕ

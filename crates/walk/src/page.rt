@@ -17,15 +17,32 @@ impl<W: Write> Page<W> {
         let room = Room::new();
         Page { output, room }
     }
+
+    // Writes what has no room, behind what there is. No answer comes here.
+    #[cold]
+    #[inline(never)]
+    fn write_apart(&mut self, buf: &[u8]) -> io::Result<()> {
+        self.flush()?;
+        self.output.write_all(buf)
+    }
 }
 
 impl<W: Write> Write for Page<W> {
     // Takes what there is room for.
     fn write(&mut self, buf: &[u8]) -> io::Result<usize> {
-        if self.room.is_full() {
+        if self.room.left() == 0 {
             self.flush()?;
         }
         Ok(self.room.put(buf))
+    }
+
+    // An answer is put part by part, and each part has room.
+    fn write_all(&mut self, buf: &[u8]) -> io::Result<()> {
+        if buf.len() <= self.room.left() {
+            self.room.put(buf);
+            return Ok(());
+        }
+        self.write_apart(buf)
     }
 
     // What can't be written is given up, and the error says so.

@@ -11,7 +11,7 @@ use crate::call::{Call, Told};
 use crate::case::Asked;
 use crate::front::Front;
 use limits::Refusal;
-use searcher::{Mode, Prepared, TwoWaySearcher};
+use searcher::{Counts, Mode, Prepared, TwoWaySearcher};
 use std::io::{self, Write};
 use suffix::{ReverseSuffix, Suffix};
 use twoway::Answer;
@@ -107,17 +107,13 @@ fn put_told<W: Write>(out: &mut W, told: Told) -> io::Result<()>
     write!(out, " {} {}", told.counts.comparisons, told.counts.tests)
 }
 
-// What a call of a walk told.
+// What a call of a walk told, without its state.
 #[tactic(auto, using(crate::proofs::Laws::call_size))]
-fn put_call<W: Write>(out: &mut W, told: Told) -> io::Result<()>
-    ensures text { OnOk result (Appends (W.contents out.old) (W.contents out.new) (call_text (told_said told))) }
-    ensures bound { IsFrontShort told.front → length (call_text (told_said told)) ≤ 91 }
+fn put_call<W: Write>(out: &mut W, front: Front, counts: Counts) -> io::Result<()>
+    ensures text { OnOk result (Appends (W.contents out.old) (W.contents out.new) (call_text (front_text front) counts)) }
+    ensures bound { IsFrontShort front → length (call_text (front_text front) counts) ≤ 91 }
 {
-    write!(
-        out,
-        " {}/{}/{}",
-        told.front, told.counts.comparisons, told.counts.tests
-    )
+    write!(out, " {front}/{}/{}", counts.comparisons, counts.tests)
 }
 
 // A walk from preparing on, by each letter of a script: RESULT/COMPARISONS/TESTS for each, and the last state.
@@ -141,7 +137,7 @@ fn put_walk<W: Write>(
     let mut walk = prepared.walk;
     for letter in script {
         let told = Call::of_letter(*letter).make(walk, haystack, needle);
-        put_call(out, told)?;
+        put_call(out, told.front, told.counts)?;
         walk = told.walk;
     }
     put_state(out, walk)

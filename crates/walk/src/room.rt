@@ -32,8 +32,9 @@ impl<const N: usize> Room<N> {
         &self.bytes[..self.len]
     }
 
-    pub(crate) fn is_full(&self) -> bool {
-        self.len == N
+    // How many bytes there is room for.
+    pub(crate) fn left(&self) -> usize {
+        N - self.len
     }
 
     pub(crate) fn clear(&mut self) {
