@@ -18,7 +18,7 @@ impl<W: Write> Page<W> {
         Page { output, room }
     }
 
-    // Writes what has no room, behind what there is. No answer comes here.
+    // Writes what has no room, behind what there is. No answer comes here, and each part of one costs less with this kept apart.
     #[cold]
     #[inline(never)]
     fn write_apart(&mut self, buf: &[u8]) -> io::Result<()> {
