@@ -119,11 +119,11 @@ folded_into set [] = refl
 folded_into set (b ∷ bytes) = folded_into (bit_or set (2 ^ bit_of b)) bytes ∙ ap (λ (s : ℕ). into s bytes) (or_comm set (2 ^ bit_of b))
 
 -- what its answer is once no byte is left, and what that never says
-pub created : (bytes : List ℕ) {set i : ℕ} → length bytes ≤ i → set ≡ folded 0 (take i bytes)
+pub created : (bytes : List ℕ) {items : List ℕ} {set i : ℕ} → set ≡ folded 0 (take i items) → length items ≤ i → items ≡ bytes
     → (set ≡ fingerprint bytes) × ((j : ℕ) → j < length bytes → has set (get_or bytes j 0) ≡ true)
 unfolding fingerprint
-created bytes {set} {i} h e =
-    let made : set ≡ fingerprint bytes = e ∙ ap (folded 0) (take_all i bytes h) ∙ folded_into 0 bytes in
+created bytes {items} {set} {i} e h all =
+    let made : set ≡ fingerprint bytes = e ∙ ap (folded 0) (take_all i items h ∙ all) ∙ folded_into 0 bytes in
     (made, λ j hj. rw made (never_no bytes j hj))
 
 -- the test of byteset_contains: the mask leaves one bit, which is not 0 exactly if it is 1
