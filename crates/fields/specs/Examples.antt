@@ -33,6 +33,9 @@ table =
     ∷ record { computed = found (number_at line (Some 4)); stated = 27 ∷ 6 ∷ [] }
     ∷ record { computed = found (number_at line (Some 3)); stated = [] }
     ∷ record { computed = found (set_at digits (Some 0)); stated = 255 ∷ 16 ∷ [] }
+    -- `0ff` is no set; its digits are 255, and end at 3
+    ∷ record { computed = found (set_at (48 ∷ 102 ∷ 102 ∷ []) (Some 0)); stated = [] }
+    ∷ record { computed = found (Some (digits_from 16 16 0 0 (48 ∷ 102 ∷ 102 ∷ []))); stated = 255 ∷ 3 ∷ [] }
     -- of two letters the first is read, and the second; another, a capital and nothing are not
     ∷ record { computed = chosen (letter (110 ∷ [])); stated = 0 ∷ 1 ∷ [] }
     ∷ record { computed = chosen (letter (111 ∷ [])); stated = 1 ∷ 1 ∷ [] }

@@ -1,9 +1,10 @@
 -- A state read and printed, computed from the definitions: one table under one claim.
 -- The bytes are ASCII: 32 is a space, 48 `0`, 58 `:`, 69 `E`, 76 `L`, 79 `O`, 83 `S`, 110 `n`, 111 `o`, 112 `p`. Assumes nothing.
-use Rattle.std.specs.Prelude.{ℕ, cond, List, [], ◌∷◌, ◌++◌, T, Option, Some, None, is_some}
+use Rattle.std.specs.Prelude.{ℕ, cond, List, [], ◌∷◌, ◌++◌, length, T, Option, Some, None, is_some}
 use Rattle.std.specs.Fmt.{digits}
 use Rattle.words.specs.Examples.{Example, same, all_as_stated}
 use Rattle.lines.specs.Reading.{skipped}
+use Rattle.lines.specs.declared.Read.{Read}
 use Rattle.fields.specs.Fields.{either_at, digit_of, with_digit, digits_from, number_at, set_at}
 use Rattle.printing.specs.Printing.{hex_text, spent, form_text}
 use Rattle.record.specs.declared.Memory.{Memory}
@@ -55,6 +56,11 @@ abbrev pub text : Option TwoWaySearcher → List ℕ
 text None = []
 text (Some w) = state_text w
 
+-- where a state that was read ends, and what was read
+abbrev pub ended : Option (Read TwoWaySearcher) → List ℕ
+ended None = []
+ended (Some r) = r.next ∷ numbers (Some r.value)
+
 abbrev pub table : List Example
 table =
     -- what is read
@@ -67,6 +73,8 @@ table =
     ∷ record { computed = text (state_at empty (Some 1)); stated = empty }
     -- with one more digit behind its last flag the line does not end behind the state
     ∷ record { computed = whole (state_at (empty ++ 48 ∷ []) (Some 1)) ∷ []; stated = 0 ∷ [] }
+    -- and the state ends before it
+    ∷ record { computed = ended (walk_at (empty ++ 48 ∷ []) (Some 1)); stated = length empty ∷ 1 ∷ 0 ∷ 2 ∷ 1 ∷ 2 ∷ 0 ∷ 0 ∷ 0 ∷ 0 ∷ 0 ∷ 1 ∷ 0 ∷ 1 ∷ [] }
     -- a state may have `o` for its mode, but not `p`, `O`, `no` or nothing
     ∷ record { computed = whole (state_at (empty_in (111 ∷ [])) (Some 1)) ∷ whole (state_at (empty_in (112 ∷ [])) (Some 1)) ∷ []; stated = 1 ∷ 0 ∷ [] }
     ∷ record { computed = whole (state_at (empty_in (79 ∷ [])) (Some 1)) ∷ whole (state_at (empty_in (110 ∷ 111 ∷ [])) (Some 1)) ∷ whole (state_at (empty_in []) (Some 1)) ∷ []; stated = 0 ∷ 0 ∷ 0 ∷ [] }
